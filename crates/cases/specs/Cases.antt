@@ -1,0 +1,125 @@
+-- 01's "Networks to try" as one table: each network as the bytes of its file, and what 01 says of it, by the definitions.
+use Prim.Native.Nat.{ℕ}
+use mathlib.Core.Bool.{false, _||_}
+use mathlib.Core.List.{List, [], _∷_, _++_}
+use mathlib.Core.Path.{_≡_}
+use lib.Dec.{eqb}
+use lib.ListN.{length}
+use Rattle.graph.specs.Graph.{Graph, Group, card, edges}
+use Rattle.graph.specs.Core.{Core, Level, LevelAcross, EqualLevel, Finding}
+use Rattle.network.specs.declared.Refusal.{Refusal}
+use Rattle.network.specs.File.{graphOf, none, plain, at, fileRefusal}
+use Rattle.network.specs.Refusals.{workLength, findingRefusal}
+use Rattle.network.specs.Tables.{u16}
+
+-- the group of the listed members
+abbrev pub members : List ℕ → Group
+members [] u = false
+members (v ∷ s) u = eqb u v || members s u
+
+-- the first 9 bytes of a file: mark, version 1, n and m
+abbrev pub head : ℕ → ℕ → List ℕ
+head n m = (0x56 ∷ 0x43 ∷ 0x48 ∷ []) ++ u16 1 ++ u16 n ++ u16 m
+
+-- the four bytes of a link: voucher, then vouched
+abbrev pub link : ℕ → ℕ → List ℕ
+link u v = u16 u ++ u16 v
+
+-- what 01 says of a network; S and T list members
+pub data Claim : Type 0 where
+  -- the [x,y]-core is S and T, with E links between them
+  core : (x y : ℕ) (S T : List ℕ) (E : ℕ) → Claim
+  -- the level of x is y
+  level : (x y : ℕ) → Claim
+  -- the level across, for y, is x
+  across : (y x : ℕ) → Claim
+  -- the finding is [x,y] with S, T and E, and the equal level is k
+  finding : (x y k : ℕ) (S T : List ℕ) (E : ℕ) → Claim
+  -- the file's own bytes give this refusal, or none
+  gives : Refusal → Claim
+  -- the finding call gives this refusal when its lent tables are as long as it needs
+  findingGives : Refusal → Claim
+
+-- the counts between the listed groups: E links, and no member listed twice or beyond the network
+pub record Counts (g : Graph) (S T : List ℕ) (E : ℕ) : Type 0 where
+  pub between : edges g (members S) (members T) ≡ E
+  pub sources : card g (members S) ≡ length S
+  pub targets : card g (members T) ≡ length T
+
+-- the file is accepted, and (S,T) is the [x,y]-core of its network
+pub record SaysCore (f : List ℕ) (x y : ℕ) (S T : List ℕ) (E : ℕ) : Type 0 where
+  pub accepted : fileRefusal f ≡ none
+  pub core : Core (graphOf f) x y (members S) (members T)
+  pub counts : Counts (graphOf f) S T E
+
+-- the file is accepted, and (S,T) is the finding of its network, for [x,y]
+pub record SaysFinding (f : List ℕ) (x y k : ℕ) (S T : List ℕ) (E : ℕ) : Type 0 where
+  pub accepted : fileRefusal f ≡ none
+  pub finding : Finding (graphOf f) x y (members S) (members T)
+  pub level : EqualLevel (graphOf f) k
+  pub counts : Counts (graphOf f) S T E
+
+-- a claim on a file, by the definitions
+abbrev pub Says : List ℕ → Claim → Type 0
+Says f (core x y S T E) = SaysCore f x y S T E
+Says f (level x y) = (fileRefusal f ≡ none) × Level (graphOf f) x y
+Says f (across y x) = (fileRefusal f ≡ none) × LevelAcross (graphOf f) y x
+Says f (finding x y k S T E) = SaysFinding f x y k S T E
+Says f (gives r) = fileRefusal f ≡ r
+Says f (findingGives r) = findingRefusal f (graphOf f .order) (graphOf f .order) (workLength (graphOf f)) ≡ r
+
+-- a file and one claim on it
+pub record Case : Type 0 where
+  pub file : List ℕ
+  pub claim : Claim
+
+-- network W
+abbrev pub W : List ℕ
+W = head 6 8 ++ link 0 3 ++ link 0 4 ++ link 1 3 ++ link 1 4 ++ link 2 3 ++ link 2 4 ++ link 4 5 ++ link 5 5
+
+-- one case of the table
+abbrev pub says : List ℕ → Claim → Case
+says f c = record { file = f; claim = c }
+
+-- P1 to P9 and W's report, then the limits of a file
+unfoldable pub cases : List Case
+cases =
+    -- P1
+    says W (core 2 3 (0 ∷ 1 ∷ 2 ∷ []) (3 ∷ 4 ∷ []) 6)
+    -- P2
+    ∷ says W (core 1 2 (0 ∷ 1 ∷ 2 ∷ 4 ∷ 5 ∷ []) (3 ∷ 4 ∷ 5 ∷ []) 8)
+    -- P3
+    ∷ says W (core 0 4 (0 ∷ 1 ∷ 2 ∷ 3 ∷ 4 ∷ 5 ∷ []) [] 0)
+    -- P4
+    ∷ says W (core 3 0 [] (0 ∷ 1 ∷ 2 ∷ 3 ∷ 4 ∷ 5 ∷ []) 0)
+    -- P5
+    ∷ says W (level 1 3)
+    ∷ says W (level 2 3)
+    ∷ says W (level 3 0)
+    ∷ says W (across 3 2)
+    -- the report on W
+    ∷ says W (finding 2 3 2 (0 ∷ 1 ∷ 2 ∷ []) (3 ∷ 4 ∷ []) 6)
+    -- P6
+    ∷ says (head 4 3 ++ link 0 1 ++ link 0 2 ++ link 0 3) (finding 3 1 1 (0 ∷ []) (1 ∷ 2 ∷ 3 ∷ []) 3)
+    -- P7
+    ∷ says (head 6 4 ++ link 0 1 ++ link 0 2 ++ link 3 5 ++ link 4 5) (finding 1 2 1 (3 ∷ 4 ∷ []) (5 ∷ []) 2)
+    -- P8
+    ∷ says (head 1 1 ++ link 0 0) (finding 1 1 1 (0 ∷ []) (0 ∷ []) 1)
+    -- P9
+    ∷ says (head 1 0) (findingGives (plain 13))
+    -- n: 2,048 is accepted, 2,049 is not
+    ∷ says (head 2048 0) (gives none)
+    ∷ says (head 2049 0) (gives (plain 4))
+    -- m: of files with no link in them 8,192 is refused by the length, 8,193 by m itself
+    ∷ says (head 1 8192) (gives (plain 6))
+    ∷ says (head 1 8193) (gives (plain 5))
+    -- a link that names n - 1 is accepted, one that names n or repeats an earlier one is refused with its number
+    ∷ says (head 3 1 ++ link 2 2) (gives none)
+    ∷ says (head 3 1 ++ link 2 3) (gives (at 7 0))
+    ∷ says (head 3 3 ++ link 0 1 ++ link 1 0 ++ link 0 1) (gives (at 8 2))
+    ∷ []
+
+-- every case's claim holds
+abbrev pub Hold : List Case → Type 0
+Hold [] = Unit {0}
+Hold (c ∷ s) = Says (c .file) (c .claim) × Hold s

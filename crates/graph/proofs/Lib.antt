@@ -1,0 +1,13 @@
+pub mod Tests
+pub mod Sums
+pub mod Ranges
+pub mod Order
+pub mod Degrees
+pub mod Peel
+pub mod Exists
+pub mod Density
+pub mod Search
+pub mod Weights
+pub mod Found
+pub mod Linkage
+pub mod Cover

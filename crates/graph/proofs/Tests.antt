@@ -1,0 +1,82 @@
+-- Laws of tests: `&&`, `if` and `eqb`.
+use Prim.Native.Nat.{ℕ, _+_, _*_, _≤_}
+use mathlib.Core.Bool.{Bool, true, false, not, _&&_, false≢true}
+use mathlib.Core.Logic.{_≢_}
+use mathlib.Core.Path.{_≡_, refl, sym, _∙_}
+use native.Mathlib.Decide.{ℕ-discrete}
+use native.Mathlib.Nat.{le-refl}
+use native.Mathlib.Omega.{arith}
+use borrow.Author.Tests.{eq-eqb, ne-eqb}
+use lib.Dec.{eqb}
+use Rattle.graph.specs.Range.{if}
+
+-- where two tests hold together the first holds
+pub and-left : (a b : Bool) → (a && b) ≡ true → a ≡ true
+and-left true b h = refl
+and-left false b h = h
+
+-- and so the second
+pub and-right : (a b : Bool) → (a && b) ≡ true → b ≡ true
+and-right true b h = h
+and-right false b h = absurd (false≢true h)
+
+-- and two that each hold hold together
+pub and-both : {a b : Bool} → a ≡ true → b ≡ true → (a && b) ≡ true
+and-both p q = rw (p, q)
+
+-- two tests of which each holds where the other does are equal
+pub test-ext : (a b : Bool) → (a ≡ true → b ≡ true) → (b ≡ true → a ≡ true) → a ≡ b
+test-ext true b f h = sym (f refl)
+test-ext false true f h = h refl
+test-ext false false f h = refl
+
+-- the order of two tests does not count
+pub if-comm : (a b : Bool) (w : ℕ) → if (a && b) w ≡ if (b && a) w
+if-comm true true w = refl
+if-comm true false w = refl
+if-comm false true w = refl
+if-comm false false w = refl
+
+-- a test that holds more often counts more
+pub if-mono : {a b : Bool} (w : ℕ) → (a ≡ true → b ≡ true) → if a w ≤ if b w
+if-mono {a = true} w f = rw (f refl) (le-refl w)
+if-mono {a = false} w f = omega arith
+
+-- no test counts more than its weight
+pub if-le : (b : Bool) (w : ℕ) → if b w ≤ w
+if-le true w = le-refl w
+if-le false w = omega arith
+
+-- nor more than c times a test of weight 1
+pub if-times : (b : Bool) {w c : ℕ} → w ≤ c → if b w ≤ c * if b 1
+if-times true h = omega arith
+if-times false h = omega arith
+
+-- what counts was tested for
+pub if-some : (b : Bool) (w : ℕ) → 1 ≤ if b w → (b ≡ true) × (1 ≤ w)
+if-some true w h = (refl, h)
+if-some false w h = absurd (omega arith)
+
+-- two tests one within the other change places
+pub if-turn : (a q b : Bool) (w : ℕ) → if a (if (q && b) w) ≡ if q (if (a && b) w)
+if-turn true true b w = refl
+if-turn true false b w = refl
+if-turn false true b w = refl
+if-turn false false b w = refl
+
+-- a test that covers q counts what it counts outside q, and what q counts
+pub if-split : (q s : Bool) (w : ℕ) → (q ≡ true → s ≡ true) → if s w ≡ if (not q && s) w + if q w
+if-split true s w f = rw (f refl) (omega arith)
+if-split false s w f = omega arith
+
+-- a test for one number counts there
+pub if-same : (k i w : ℕ) → k ≡ i → if (eqb k i) w ≡ w
+if-same k i w e = rw (eq-eqb _ _ e)
+
+-- it counts nothing elsewhere
+pub if-other : (k i w : ℕ) → k ≢ i → if (eqb k i) w ≡ 0
+if-other k i w e = rw (ne-eqb _ _ e)
+
+-- a test for equal numbers holds either way round
+pub eqb-sym : (a b : ℕ) → eqb a b ≡ eqb b a
+eqb-sym a b = elim (ℕ-discrete a b) [ yes e ↦ eq-eqb a b e ∙ sym (eq-eqb b a (sym e)) | no h ↦ ne-eqb a b h ∙ sym (ne-eqb b a (λ e. h (sym e))) ]

@@ -1,0 +1,75 @@
+-- [x,y]-cores, levels, the finding, and the bound on the density of every pair.
+use Prim.Native.Nat.{ℕ, _*_, _<_, _≤_}
+use mathlib.Core.Bool.{true}
+use mathlib.Core.Path.{_≡_}
+use Rattle.graph.specs.Graph.{Graph, Group, card, edges, outDegree, inDegree}
+
+-- every vertex of S is in R
+abbrev pub Inside : Graph → Group → Group → Type 0
+Inside g S R = (u : ℕ) → u < g .order → S u ≡ true → R u ≡ true
+
+-- S and R have the same vertices
+abbrev pub Same : Graph → Group → Group → Type 0
+Same g S R = (u : ℕ) → u < g .order → S u ≡ R u
+
+-- each vertex of S has at least x links into T, and each of T at least y from S
+pub record Dense (g : Graph) (x y : ℕ) (S T : Group) : Type 0 where
+  pub out : (u : ℕ) → u < g .order → S u ≡ true → x ≤ outDegree g T u
+  pub inn : (v : ℕ) → v < g .order → T v ≡ true → y ≤ inDegree g S v
+
+-- every such pair has its S inside this S and its T inside this T
+abbrev pub Covers : Graph → ℕ → ℕ → Group → Group → Type 0
+Covers g x y S T = (S′ T′ : Group) → Dense g x y S′ T′ → Inside g S′ S × Inside g T′ T
+
+-- 01: (S,T) is the [x,y]-core, the largest such pair
+pub record Core (g : Graph) (x y : ℕ) (S T : Group) : Type 0 where
+  pub dense : Dense g x y S T
+  pub largest : Covers g x y S T
+
+-- the [x,y]-core has a vertex on both sides
+pub record Nonempty (g : Graph) (x y : ℕ) : Type 0 where
+  pub S : Group
+  pub T : Group
+  pub core : Core g x y S T
+  pub some : 1 ≤ card g S
+  pub other : 1 ≤ card g T
+
+-- k is the largest number of at least 1 with P k, or 0 where there is none
+pub record Greatest (P : ℕ → Type 0) (k : ℕ) : Type 0 where
+  pub holds : 1 ≤ k → P k
+  pub above : (j : ℕ) → 1 ≤ j → P j → j ≤ k
+
+-- 01: the level of x is y
+abbrev pub Level : Graph → ℕ → ℕ → Type 0
+Level g x y = Greatest (λ j. Nonempty g x j) y
+
+-- 01: the level across, for y, is x
+abbrev pub LevelAcross : Graph → ℕ → ℕ → Type 0
+LevelAcross g y x = Greatest (λ j. Nonempty g j y) x
+
+-- 01: the equal level is k
+abbrev pub EqualLevel : Graph → ℕ → Type 0
+EqualLevel g k = Greatest (λ j. Nonempty g j j) k
+
+-- (x,y) comes before (x′,y′): its product is the greater, or they are equal and its x is no greater
+pub record Before (x y x′ y′ : ℕ) : Type 0 where
+  pub product : x′ * y′ ≤ x * y
+  pub tie : x′ * y′ ≡ x * y → x ≤ x′
+
+-- 01: (S,T) is the finding, for [x,y]: the non-empty core, x and y at least 1, that comes before every other
+pub record Finding (g : Graph) (x y : ℕ) (S T : Group) : Type 0 where
+  pub x-positive : 1 ≤ x
+  pub y-positive : 1 ≤ y
+  pub core : Core g x y S T
+  pub some : 1 ≤ card g S
+  pub other : 1 ≤ card g T
+  pub before : (x′ y′ : ℕ) → 1 ≤ x′ → 1 ≤ y′ → Nonempty g x′ y′ → Before x y x′ y′
+
+-- condition 3, for all pairs of non-empty groups S′ and T′: E(S′,T′) squared is at most 4 × x × y × |S′| × |T′|; E(S,T) squared
+-- is at least x × y × |S| × |T|; so S′, T′ has at most twice the density of S, T
+pub record Bounds (g : Graph) (x y : ℕ) (S T : Group) : Type 0 where
+  pub above : (S′ T′ : Group) → 1 ≤ card g S′ → 1 ≤ card g T′
+      → edges g S′ T′ * edges g S′ T′ ≤ 4 * (x * y) * (card g S′ * card g T′)
+  pub below : x * y * (card g S * card g T) ≤ edges g S T * edges g S T
+  pub twice : (S′ T′ : Group) → 1 ≤ card g S′ → 1 ≤ card g T′
+      → edges g S′ T′ * edges g S′ T′ * (card g S * card g T) ≤ 4 * (edges g S T * edges g S T) * (card g S′ * card g T′)

@@ -1,0 +1,155 @@
+-- When a file is accepted, what that says of its network, and how the refusal of a call is taken apart.
+use Prim.Native.Nat.{ℕ, _+_, _*_, _<_, _≤_}
+use mathlib.Core.Bool.{Bool, true, false, not, cond, _||_, false≢true, and-eq-true-iff}
+use mathlib.Core.List.{List}
+use mathlib.Core.Logic.{_↔_, Iff·rfl}
+use mathlib.Core.Path.{_≡_, refl, sym, ap}
+use native.Mathlib.Decide.{decLe}
+use native.Mathlib.Nat.{le-antisymm}
+use native.Mathlib.Omega.{arith}
+use borrow.Author.Tests.{ltb-false, leb-false, eqb-true, eqb-false, not-false, le-ltb, lt-leb, eq-eqb}
+use lib.Dec.{eqb, leb, ltb}
+use lib.ListN.{length, getD}
+use Rattle.graph.specs.Range.{first}
+use Rattle.graph.specs.Graph.{Graph, Closed, Simple}
+use Rattle.graph.proofs.Ranges.{first-le, first-passes, first-before, first-least, first-none}
+use Rattle.network.specs.declared.Refusal.{Refusal}
+use Rattle.network.specs.File.{u16At, graphOf, marked, outside, same, repeat, none, fileRefusal}
+use Rattle.network.specs.Refusals.{orElse, isGroup, coreRefusal}
+
+-- a test for less fails exactly when the other is no greater
+pub ltb-fails : (a b : ℕ) → (ltb a b ≡ false) ↔ (b ≤ a)
+ltb-fails a b = (ltb-false a b, le-ltb a b)
+
+-- a test for no greater fails exactly when the other is less
+pub leb-fails : (a b : ℕ) → (leb a b ≡ false) ↔ (b < a)
+leb-fails a b = (leb-false a b, lt-leb a b)
+
+-- a test for equal numbers holds exactly when they are
+pub eqb-holds : (a b : ℕ) → (eqb a b ≡ true) ↔ (a ≡ b)
+eqb-holds a b = (eqb-true a b, eq-eqb a b)
+
+-- a test that is turned round fails exactly when it holds
+pub not-fails : (b : Bool) → (not b ≡ false) ↔ (b ≡ true)
+not-fails b = (not-false b, λ h. rw h)
+
+-- two tests of which one has to hold fail exactly when each fails
+pub or-fails : (a b : Bool) → ((a || b) ≡ false) ↔ ((a ≡ false) × (b ≡ false))
+or-fails true b = (λ h. absurd (false≢true (sym h)), λ (h, i). h)
+or-fails false b = (λ h. (refl, h), λ (h, i). i)
+
+-- no number below n passes the test exactly when the first is n
+pub first-all : (p : ℕ → Bool) (n : ℕ) → (first p n ≡ n) ↔ ((i : ℕ) → i < n → p i ≡ false)
+first-all p n = (λ h i l. first-before p n i (omega arith), first-none p n)
+
+-- the first that passes is not below n exactly when it is n
+first-fails : (p : ℕ → Bool) (n : ℕ) → (ltb (first p n) n ≡ false) ↔ (first p n ≡ n)
+first-fails p n = (λ h. omega (arith, ltb-false _ n h, first-le p n), λ h. le-ltb _ n (omega arith))
+
+-- a table of bytes is a group exactly when each of its first n bytes is at most 1
+pub isGroup-most : (n : ℕ) (s : List ℕ) → (isGroup n s ≡ true) ↔ ((u : ℕ) → u < n → getD s u 0 ≤ 1)
+isGroup-most n s = simp (eqb-holds, first-all, ltb-fails) Iff·rfl
+
+-- a refusal under a test is none exactly when the test fails and what comes after is none
+pub cond-none : (b : Bool) (r s : Refusal) → eqb (r .number) 0 ≡ false → (cond b r s ≡ none) ↔ ((b ≡ false) × (s ≡ none))
+cond-none true r s e = (λ h. absurd (eqb-false _ 0 e (ap (λ t. t .number) h)), λ (h, i). absurd (false≢true (sym h)))
+cond-none false r s e = (λ h. (refl, h), λ (h, i). i)
+
+-- a refusal of number 0 is none
+pub record Proper (r : Refusal) : Type 0 where
+  pub number-none : r .number ≡ 0 → r ≡ none
+
+-- none is one
+pub none-proper : Proper none
+none-proper = record { number-none = λ h. refl }
+
+-- so is a refusal of another number under a test, and what comes after
+pub cond-proper : (b : Bool) (r : Refusal) {s : Refusal} → eqb (r .number) 0 ≡ false → Proper s → Proper (cond b r s)
+cond-proper true r e p = record { number-none = λ h. absurd (eqb-false _ 0 e h) }
+cond-proper false r e p = p
+
+-- of two refusals the second counts where the first is none
+pub orElse-none : (s : Refusal) → orElse none s ≡ s
+orElse-none s = refl
+
+-- together they are none exactly when each is
+pub orElse-both : {r : Refusal} (s : Refusal) → Proper r → (orElse r s ≡ none) ↔ ((r ≡ none) × (s ≡ none))
+orElse-both {r} s p = (go (eqb (r .number) 0) refl, λ (h, i). rw h i)
+  where
+    go : (b : Bool) → eqb (r .number) 0 ≡ b → cond b s r ≡ none → (r ≡ none) × (s ≡ none)
+    go true e h = (p .number-none (eqb-true _ 0 e), h)
+    go false e h = absurd (eqb-false _ 0 e (ap (λ t. t .number) h))
+
+-- and of number 0 only then
+pub orElse-proper : {r s : Refusal} → Proper r → Proper s → Proper (orElse r s)
+orElse-proper {r} {s} p q = go (eqb (r .number) 0)
+  where
+    go : (b : Bool) → Proper (cond b s r)
+    go true = q
+    go false = p
+
+-- the refusal of a file has number 0 only where it is none
+pub file-proper : (f : List ℕ) → Proper (fileRefusal f)
+unfolding fileRefusal
+file-proper f = search (cond-proper, none-proper) depth 10
+
+-- the refusal of the core call has number 0 only where it is none
+pub core-proper : (f : List ℕ) (s t w : ℕ) → Proper (coreRefusal f s t w)
+unfolding coreRefusal
+core-proper f s t w = orElse-proper (file-proper f) (search (cond-proper, none-proper))
+
+-- each of the numbers 1 to 8 is not given for the file
+pub record Accepted (f : List ℕ) : Type 0 where
+  pub long : 9 ≤ length f
+  pub mark : marked f ≡ true
+  pub version : u16At f 3 ≡ 1
+  pub order-most : graphOf f .order ≤ 2048
+  pub size-most : graphOf f .size ≤ 8192
+  pub exact : length f ≡ 9 + 4 * graphOf f .size
+  pub inside : outside (graphOf f) ≡ graphOf f .size
+  pub distinct : repeat (graphOf f) ≡ graphOf f .size
+
+-- a file is accepted exactly when none of its own numbers is given
+pub accepted : (f : List ℕ) → (fileRefusal f ≡ none) ↔ Accepted f
+unfolding fileRefusal
+accepted f = simp (cond-none, first-fails, ltb-fails, not-fails, eqb-holds) (λ t. search, λ a. search)
+
+-- where another refusal comes after the file's, there is none exactly when the file is accepted and the other is none
+pub accepted-orElse : (f : List ℕ) (s : Refusal) → (orElse (fileRefusal f) s ≡ none) ↔ (Accepted f × (s ≡ none))
+accepted-orElse f s =
+    (λ h. let (p, q) = orElse-both s (file-proper f) .0 h in (accepted f .0 p, q), λ (p, q). orElse-both s (file-proper f) .1 (accepted f .1 p, q))
+
+-- no link is outside exactly when each joins two vertices of the graph
+pub outside-closed : (g : Graph) → (outside g ≡ g .size) ↔ Closed g
+outside-closed g =
+    simp (first-all, or-fails, leb-fails)
+    (λ h. record { source-below = λ e l. h e l .0; target-below = λ e l. h e l .1 }, λ k e l. (k .source-below e l, k .target-below e l))
+
+-- two links are the same exactly when their ends are
+pub same-ends : (g : Graph) (d e : ℕ) → (same g d e ≡ true) ↔ ((g .source d ≡ g .source e) × (g .target d ≡ g .target e))
+same-ends g d e = simp (and-eq-true-iff, eqb-holds) Iff·rfl
+
+-- no link is repeated exactly when no two are the same
+pub repeat-simple : (g : Graph) → (repeat g ≡ g .size) ↔ Simple g
+repeat-simple g = simp (first-all, ltb-fails) (simple, distinct)
+  where
+    none-before : ((e : ℕ) → e < g .size → e ≤ first (λ d. same g d e) e) → (d e : ℕ) → e < g .size → g .source d ≡ g .source e → g .target d ≡ g .target e → e ≤ d
+    none-before h d e l s t = omega (arith, h e l, first-least (λ c. same g c e) e d (same-ends g d e .1 (s, t)))
+
+    simple : ((e : ℕ) → e < g .size → e ≤ first (λ d. same g d e) e) → Simple g
+    simple h d e k l s t = le-antisymm (none-before h e d k (sym s) (sym t)) (none-before h d e l s t)
+
+    distinct : Simple g → (e : ℕ) → e < g .size → e ≤ first (λ d. same g d e) e
+    distinct s e l =
+        elim (decLe e (first (λ d. same g d e) e)) [
+          | yes p ↦ p
+          | no p ↦ let (i, j) = same-ends g _ e .0 (first-passes (λ d. same g d e) e (omega arith)) in absurd (omega (arith, s _ e (omega arith) l i j))
+        ]
+
+-- an accepted file's links join its members
+pub accepted-closed : {f : List ℕ} → Accepted f → Closed (graphOf f)
+accepted-closed {f} a = outside-closed (graphOf f) .0 (a .inside)
+
+-- and no two of them are the same
+pub accepted-simple : {f : List ℕ} → Accepted f → Simple (graphOf f)
+accepted-simple {f} a = repeat-simple (graphOf f) .0 (a .distinct)

@@ -1,0 +1,4 @@
+pub mod Accepted
+pub mod Tables
+pub mod Written
+pub mod Examples

@@ -1,0 +1,4 @@
+pub mod File
+pub mod Refusals
+pub mod Tables
+pub mod Sides

@@ -1,0 +1,88 @@
+-- The refusal of each call, from the file, the arguments and the lengths of the lent tables: the first that applies, in 01's order.
+use Prim.Native.Nat.{ℕ, suc, _+_, _-_, _*_}
+use mathlib.Core.Bool.{Bool, not, cond, _&&_, _||_}
+use mathlib.Core.List.{List}
+use lib.Dec.{eqb, leb, ltb}
+use lib.ListN.{length, getD}
+use Rattle.graph.specs.Range.{first}
+use Rattle.graph.specs.Graph.{Graph}
+use Rattle.network.specs.declared.Refusal.{Refusal}
+use Rattle.network.specs.File.{graphOf, none, plain, fileRefusal}
+
+-- the first refusal where there is one, else the second
+abbrev pub orElse : Refusal → Refusal → Refusal
+orElse r s = cond (eqb (r .number) 0) s r
+
+-- 01: every byte among the first n of a group is 0 or 1
+abbrev pub isGroup : ℕ → List ℕ → Bool
+isGroup n s = eqb (first (λ u. ltb 1 (getD s u 0)) n) n
+
+-- 01: the length of the work table of core, level, equal level and finding
+abbrev pub workLength : Graph → ℕ
+workLength g = 2 * g .size + 6 * g .order + 2
+
+-- 01: the length of the written file
+abbrev pub fileLength : Graph → ℕ
+fileLength g = 9 + 4 * g .size
+
+-- the file, and the lengths of out-starts, out-rows, in-starts and in-rows
+unfoldable pub indexRefusal : List ℕ → ℕ → ℕ → ℕ → ℕ → Refusal
+indexRefusal f os or is ir =
+    let g = graphOf f in
+    orElse (fileRefusal f)
+    (cond (ltb os (suc (g .order)) || ltb or (g .size) || ltb is (suc (g .order)) || ltb ir (g .size)) (plain 9)
+    none)
+
+-- one side's starts and rows, and the member
+unfoldable pub rowRefusal : List ℕ → List ℕ → ℕ → Refusal
+rowRefusal starts rows u =
+    cond (ltb (length starts) 1) (plain 9)
+    (cond (leb (length starts - 1) u) (plain 10)
+    (cond (ltb (getD starts (u + 1) 0) (getD starts u 0) || ltb (length rows) (getD starts (u + 1) 0)) (plain 14)
+    none))
+
+-- the file and the two groups
+unfoldable pub countRefusal : List ℕ → List ℕ → List ℕ → Refusal
+countRefusal f s t =
+    let g = graphOf f in
+    orElse (fileRefusal f)
+    (cond (ltb (length s) (g .order) || ltb (length t) (g .order)) (plain 9)
+    (cond (not (isGroup (g .order) s && isGroup (g .order) t)) (plain 11)
+    none))
+
+-- the file, and the lengths of the two groups and of the work table
+unfoldable pub coreRefusal : List ℕ → ℕ → ℕ → ℕ → Refusal
+coreRefusal f s t w =
+    let g = graphOf f in
+    orElse (fileRefusal f)
+    (cond (ltb s (g .order) || ltb t (g .order) || ltb w (workLength g)) (plain 9)
+    none)
+
+-- the file, x or y, and the length of the work table: of level and of level across
+unfoldable pub levelRefusal : List ℕ → ℕ → ℕ → Refusal
+levelRefusal f x w =
+    orElse (fileRefusal f)
+    (cond (ltb w (workLength (graphOf f))) (plain 9)
+    (cond (eqb x 0) (plain 12)
+    none))
+
+-- the file and the length of the work table
+unfoldable pub equalLevelRefusal : List ℕ → ℕ → Refusal
+equalLevelRefusal f w =
+    orElse (fileRefusal f)
+    (cond (ltb w (workLength (graphOf f))) (plain 9)
+    none)
+
+-- the file, and the lengths of the two groups and of the work table
+unfoldable pub findingRefusal : List ℕ → ℕ → ℕ → ℕ → Refusal
+findingRefusal f s t w =
+    orElse (coreRefusal f s t w)
+    (cond (eqb (graphOf f .size) 0) (plain 13)
+    none)
+
+-- the file and the length of the output
+unfoldable pub writeRefusal : List ℕ → ℕ → Refusal
+writeRefusal f o =
+    orElse (fileRefusal f)
+    (cond (ltb o (fileLength (graphOf f))) (plain 9)
+    none)
