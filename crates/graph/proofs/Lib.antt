@@ -1,7 +1,9 @@
 pub mod Tests
 pub mod Sums
 pub mod Ranges
+pub mod Stores
 pub mod Order
+pub mod Sorting
 pub mod Degrees
 pub mod Peel
 pub mod Exists

@@ -11,6 +11,7 @@ use lib.Dec.{eqb}
 use lib.ListN.{length, getD, set, drop, length-append, List·getD-append}
 use lib.Seq.{ext-getD, drop-cons, set-at, append-snoc, getD-append-add}
 use Rattle.graph.specs.Range.{sum, if, first, flat, table}
+use Rattle.graph.specs.Order.{Permutes}
 use Rattle.graph.proofs.Tests.{test-ext, if-some}
 use Rattle.graph.proofs.Sums.{sum-ext, sum-mono, sum-ones, sum-swap, below-suc, sum-some, sum-pick}
 
@@ -123,11 +124,6 @@ sum-less {f} {h} (suc n) i e l s =
     below-suc l
     (λ q. let t : f n < h n = rw q at s in omega (arith, sum-mono {f = f} {h = h} n (λ k m. e k (omega arith))))
     (λ q. omega (arith, sum-less n i (λ k m. e k (omega arith)) q s, e n (omega arith)))
-
--- f takes the numbers below n to numbers below n, no two to the same
-pub record Permutes (f : ℕ → ℕ) (n : ℕ) : Type 0 where
-  pub below : (i : ℕ) → i < n → f i < n
-  pub injective : (i j : ℕ) → i < n → j < n → f i ≡ f j → i ≡ j
 
 -- where f takes k to j, a sum over the numbers that it takes to j is the one term of k
 permutes-sum-to : {f : ℕ → ℕ} {n : ℕ} → Permutes f n → (w k j : ℕ) → k < n → f k ≡ j → sum (λ i. if (eqb (f i) j) w) n ≡ w

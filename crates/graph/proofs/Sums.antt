@@ -8,7 +8,7 @@ use native.Mathlib.Nat.{ne-of-lt, eq-or-lt-of-le, le-of-suc-le-suc}
 use native.Mathlib.Omega.{arith}
 use lib.Dec.{eqb}
 use Rattle.graph.specs.Range.{sum, if}
-use Rattle.graph.proofs.Tests.{if-same, if-other}
+use Rattle.graph.proofs.Tests.{if-le, if-same, if-other}
 
 -- equal terms have equal sums
 pub sum-ext : {f h : ℕ → ℕ} (n : ℕ) → ((i : ℕ) → i < n → f i ≡ h i) → sum f n ≡ sum h n
@@ -39,6 +39,10 @@ pub sum-ones : (n : ℕ) → sum (λ i. 1) n ≡ n
 unfolding sum
 sum-ones zero = refl
 sum-ones (suc n) = omega (arith, sum-ones n)
+
+-- no more tests hold than there are
+pub sum-tests : (p : ℕ → Bool) (n : ℕ) → sum (λ i. if (p i) 1) n ≤ n
+sum-tests p n = omega (arith, sum-mono {h = λ i. 1} n (λ i l. if-le (p i) 1), sum-ones n)
 
 -- a factor of every term
 pub sum-times : (c : ℕ) (f : ℕ → ℕ) (n : ℕ) → sum (λ i. c * f i) n ≡ c * sum f n

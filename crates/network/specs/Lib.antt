@@ -2,3 +2,4 @@ pub mod File
 pub mod Refusals
 pub mod Tables
 pub mod Sides
+pub mod Sorts

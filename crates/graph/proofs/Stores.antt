@@ -1,0 +1,56 @@
+-- A list after a store: the entry stored, and every other as it was.
+use Prim.Native.Nat.{ℕ, _+_, _<_}
+use mathlib.Core.Bool.{true, false, cond}
+use mathlib.Core.List.{List}
+use mathlib.Core.Path.{_≡_, sym}
+use native.Mathlib.Decide.{ℕ-discrete, decLt}
+use native.Mathlib.Numerals.{add-one}
+use native.Mathlib.Omega.{arith}
+use borrow.Author.Tests.{eq-eqb, ne-eqb}
+use lib.Dec.{eqb}
+use lib.ListN.{length, getD, set, replicate, getD-replicate, length-replicate, List·getD-eq-default}
+use lib.Seq.{getD-set-same, getD-set-other}
+use Rattle.graph.specs.Range.{sum, if}
+
+-- an entry of a list after a store
+pub getD-set : (l : List ℕ) (i v k : ℕ) → i < length l → getD (set l i v) k 0 ≡ cond (eqb i k) v (getD l k 0)
+getD-set l i v k h =
+    elim (ℕ-discrete i k) [
+      | yes e ↦ rw (eq-eqb i k e, ← e) (getD-set-same l i v 0 h)
+      | no e ↦ rw (ne-eqb i k e) (getD-set-other l i k v 0 (λ q. e (sym q)))
+    ]
+
+-- where the store counts one up
+pub getD-count : (l : List ℕ) (i k : ℕ) → i < length l → getD (set l i (getD l i 0 + 1)) k 0 ≡ getD l k 0 + if (eqb i k) 1
+getD-count l i k h =
+    elim (ℕ-discrete i k) [
+      | yes e ↦ rw (eq-eqb i k e, ← e) (getD-set-same l i (getD l i 0 + 1) 0 h)
+      | no e ↦ rw (ne-eqb i k e, getD-set-other l i k (getD l i 0 + 1) 0 (λ q. e (sym q))) (omega arith)
+    ]
+
+-- what holds of each entry before i, and of the one stored at i, holds of each before i + 1
+pub set-next : (P : ℕ → ℕ → Type 0) (l : List ℕ) (i v : ℕ) → i < length l → ((k : ℕ) → k < i → P k (getD l k 0)) → P i v
+    → (k : ℕ) → k < i + 1 → P k (getD (set l i v) k 0)
+set-next P l i v h old new k m =
+    elim (ℕ-discrete k i) [
+      | yes e ↦ rw (e, getD-set-same l i v 0 h) new
+      | no e ↦ rw (getD-set-other l i k v 0 e) (old k (omega arith))
+    ]
+
+-- every entry of a list of zeros is 0, and so is what stands past its end
+pub getD-zeros : (n i : ℕ) → getD {A = ℕ} (replicate n 0) i 0 ≡ 0
+getD-zeros n i = elim (decLt i n) [ yes l ↦ getD-replicate n i 0 0 l | no l ↦ List·getD-eq-default (replicate n 0) 0 (rw (length-replicate {A = ℕ} n 0) (omega arith)) ]
+
+-- l is l₀ with each of the first e keys counted at its entry
+abbrev pub Counted : List ℕ → (ℕ → ℕ) → ℕ → List ℕ → Type 0
+Counted l₀ key e l = (a : ℕ) → getD l a 0 ≡ getD l₀ a 0 + sum (λ d. if (eqb (key d) a) 1) e
+
+-- at first nothing is counted
+pub count-none : (l : List ℕ) (key : ℕ → ℕ) → Counted l key 0 l
+unfolding sum
+count-none l key a = omega arith
+
+-- and one more key is counted by a store
+pub count-more : (l₀ l : List ℕ) (key : ℕ → ℕ) (e i : ℕ) → i ≡ key e → i < length l → Counted l₀ key e l → Counted l₀ key (e + 1) (set l i (getD l i 0 + 1))
+unfolding sum
+count-more l₀ l key e i q h c a = rw (add-one e, ← q) (omega (arith, getD-count l i a h, c a))
