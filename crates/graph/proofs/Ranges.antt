@@ -9,7 +9,7 @@ use native.Mathlib.Omega.{arith}
 use borrow.Author.Tests.{eqb-true, eq-eqb}
 use lib.Dec.{eqb}
 use lib.ListN.{length, getD, set, drop, length-append, List·getD-append}
-use lib.Seq.{ext-getD, drop-cons, set-at, append-snoc, getD-append-add}
+use lib.Seq.{ext-getD, drop-cons, set-at, getD-at, append-snoc, getD-append-add}
 use Rattle.graph.specs.Range.{sum, if, first, flat, table}
 use Rattle.graph.specs.Order.{Permutes}
 use Rattle.graph.proofs.Tests.{test-ext, if-some}
@@ -115,6 +115,10 @@ table-fill f d i l =
     ap (λ t. set (table f i ++ t) i (f i)) (drop-cons d i 0 l)
     ∙ set-at (table f i) (getD d i 0) (drop (suc i) d) (f i) i (length-table f i)
     ∙ rw (table-suc, append-snoc)
+
+-- the entry that comes next is as it was
+pub table-next : (f : ℕ → ℕ) (d : List ℕ) (i : ℕ) → i < length d → getD (table f i ++ drop i d) i 0 ≡ getD d i 0
+table-next f d i l = rw (drop-cons d i 0 l) (getD-at (table f i) (getD d i 0) (drop (suc i) d) 0 i (length-table f i))
 
 -- terms of which none is greater and one is smaller have a smaller sum
 pub sum-less : {f h : ℕ → ℕ} (n i : ℕ) → ((k : ℕ) → k < n → f k ≤ h k) → i < n → f i < h i → sum f n < sum h n

@@ -2,7 +2,7 @@
 use Prim.Native.Nat.{ℕ, _+_, _<_}
 use mathlib.Core.Bool.{true, false, cond}
 use mathlib.Core.List.{List}
-use mathlib.Core.Path.{_≡_, sym}
+use mathlib.Core.Path.{_≡_, sym, ap, _∙_}
 use native.Mathlib.Decide.{ℕ-discrete, decLt}
 use native.Mathlib.Numerals.{add-one}
 use native.Mathlib.Omega.{arith}
@@ -10,7 +10,8 @@ use borrow.Author.Tests.{eq-eqb, ne-eqb}
 use lib.Dec.{eqb}
 use lib.ListN.{length, getD, set, replicate, getD-replicate, length-replicate, List·getD-eq-default}
 use lib.Seq.{getD-set-same, getD-set-other}
-use Rattle.graph.specs.Range.{sum, if}
+use Rattle.graph.specs.Range.{sum, if, table}
+use Rattle.graph.proofs.Ranges.{table-unique}
 
 -- an entry of a list after a store
 pub getD-set : (l : List ℕ) (i v k : ℕ) → i < length l → getD (set l i v) k 0 ≡ cond (eqb i k) v (getD l k 0)
@@ -54,3 +55,9 @@ count-none l key a = omega arith
 pub count-more : (l₀ l : List ℕ) (key : ℕ → ℕ) (e i : ℕ) → i ≡ key e → i < length l → Counted l₀ key e l → Counted l₀ key (e + 1) (set l i (getD l i 0 + 1))
 unfolding sum
 count-more l₀ l key e i q h c a = rw (add-one e, ← q) (omega (arith, getD-count l i a h, c a))
+
+-- counted from zeros, the entries are the counts
+pub count-table : (l₀ l : List ℕ) (n : ℕ) (key : ℕ → ℕ) (e : ℕ) → l₀ ≡ replicate n 0 → length l ≡ n → Counted l₀ key e l
+    → l ≡ table (λ a. sum (λ d. if (eqb (key d) a) 1) e) n
+count-table l₀ l n key e z s c =
+    table-unique l _ n s (λ a h. let z′ : getD l₀ a 0 ≡ 0 = ap (λ t. getD t a 0) z ∙ getD-zeros n a in omega (arith, c a))

@@ -65,6 +65,12 @@ sum-swap f m (suc n) = omega (arith, sum-swap f m n, sum-add (λ j. sum (λ i. f
 pub below-suc : {P : Type 0} {i n : ℕ} → i < suc n → (i ≡ n → P) → (i < n → P) → P
 below-suc l f h = ⊎-elim f h (eq-or-lt-of-le (le-of-suc-le-suc l))
 
+-- fewer terms have a smaller sum
+pub sum-front : (f : ℕ → ℕ) (i n : ℕ) → i ≤ n → sum f i ≤ sum f n
+unfolding sum
+sum-front f i zero l = let e : i ≡ 0 = omega arith in rw e (omega arith)
+sum-front f i (suc n) l = ⊎-elim (λ e. rw e (omega arith)) (λ h. omega (arith, sum-front f i n (omega arith))) (eq-or-lt-of-le l)
+
 -- no term is greater than the sum
 pub term-le-sum : (f : ℕ → ℕ) (n i : ℕ) → i < n → f i ≤ sum f n
 unfolding sum

@@ -1,4 +1,6 @@
 // The network file: what its bytes mean, and the numbers by which a call refuses its input.
+mod files;
+mod orders;
 
 // A refusal's number, and the number of the edge for the refusals that name one (else 0). No refusal is number 0.
 pub struct Refusal {
@@ -11,3 +13,10 @@ pub enum Side {
     Source,
     Target,
 }
+
+pub use files::end_at;
+pub use files::u16_at;
+pub use files::wide;
+pub use files::wide16;
+pub use orders::fill_starts;
+pub use orders::order;
