@@ -4,3 +4,7 @@ pub mod Tables
 pub mod Written
 pub mod Examples
 pub mod Sorts
+pub mod Repeats
+pub mod Compare
+pub mod Headers
+pub mod Answers

@@ -1,5 +1,7 @@
 pub mod File
 pub mod Refusals
 pub mod Tables
+pub mod Answers
+pub mod Checks
 pub mod Sides
 pub mod Sorts

@@ -1,4 +1,5 @@
 // The network file: what its bytes mean, and the numbers by which a call refuses its input.
+mod checks;
 mod files;
 mod orders;
 
@@ -8,12 +9,20 @@ pub struct Refusal {
     pub link: u16,
 }
 
+// What the check answers: n and m, or the refusal.
+pub enum CheckAnswer {
+    Accepted { order: usize, size: usize },
+    Refused(Refusal),
+}
+
 // A side of an edge. 01: the voucher is the source, the vouched member the target.
 pub enum Side {
     Source,
     Target,
 }
 
+pub use checks::check;
+pub use checks::file_refusal;
 pub use files::end_at;
 pub use files::u16_at;
 pub use files::wide;
