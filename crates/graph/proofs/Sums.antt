@@ -5,10 +5,21 @@ use mathlib.Core.Logic.{⊎-elim}
 use mathlib.Core.Path.{_≡_, refl, sym, ap, _∙_}
 use native.Mathlib.Decide.{decLe}
 use native.Mathlib.Nat.{ne-of-lt, eq-or-lt-of-le, le-of-suc-le-suc}
+use native.Mathlib.Numerals.{add-one}
 use native.Mathlib.Omega.{arith}
 use lib.Dec.{eqb}
 use Rattle.graph.specs.Range.{sum, if}
 use Rattle.graph.proofs.Tests.{if-le, if-same, if-other}
+
+-- a sum of one term more
+pub sum-next : (f : ℕ → ℕ) (n : ℕ) → sum f (n + 1) ≡ sum f n + f n
+unfolding sum
+sum-next f n = rw (add-one n)
+
+-- a sum of none
+pub sum-empty : (f : ℕ → ℕ) → sum f 0 ≡ 0
+unfolding sum
+sum-empty f = refl
 
 -- equal terms have equal sums
 pub sum-ext : {f h : ℕ → ℕ} (n : ℕ) → ((i : ℕ) → i < n → f i ≡ h i) → sum f n ≡ sum h n

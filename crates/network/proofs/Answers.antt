@@ -8,6 +8,8 @@ use Rattle.network.specs.declared.Refusal.{Refusal}
 use Rattle.network.specs.declared.CheckAnswer.{CheckAnswer}
 use Rattle.network.specs.declared.CheckAnswer.the-variants.{Accepted, Refused}
 use Rattle.network.specs.File.{graphOf, none, fileRefusal}
+use borrow.Author.Tests.{ne-eqb}
+use Rattle.network.specs.Refusals.{orElse}
 use Rattle.network.specs.Answers.{Answers}
 use Rattle.network.specs.Checks.{CheckCall}
 
@@ -41,3 +43,11 @@ check-accepted {f} {n} {m} e p q =
   where
     never : (r : Refusal) → Accepted n m ≡ Refused r → ⊥
     never r i = let z : _≡_ {A = ℕ} 0 1 = cc in omega arith
+
+-- an earlier refusal is that of the call
+pub orElse-first : {r : Refusal} (s : Refusal) → r .number ≢ 0 → orElse r s ≡ r
+orElse-first {r} s n = rw (ne-eqb (r .number) 0 n)
+
+-- and where there is none the later one is
+pub orElse-second : {r : Refusal} (s : Refusal) → r ≡ none → orElse r s ≡ s
+orElse-second s e = rw e

@@ -3,16 +3,17 @@ use Prim.Native.Nat.{ℕ, _+_, _*_, _<_, _≤_}
 use mathlib.Core.Bool.{true, false, cond}
 use mathlib.Core.List.{List}
 use mathlib.Core.Logic.{_≢_}
-use mathlib.Core.Path.{_≡_, refl, sym, _∙_}
+use mathlib.Core.Path.{_≡_, refl, sym, ap, _∙_}
 use native.Mathlib.Omega.{arith}
 use borrow.Author.Tests.{lt-ltb, le-ltb, eq-eqb, ne-eqb}
 use lib.Dec.{ltb}
 use lib.ListN.{length}
 use Rattle.graph.specs.Graph.{Closed}
+use Rattle.network.specs.declared.Refusal.{Refusal}
 use Rattle.network.specs.File.{u16At, graphOf, marked, outside, repeat, none, plain, at, fileRefusal}
 use Rattle.network.specs.Checks.{Header, HeaderNumber}
 use Rattle.network.specs.Sides.{Sound}
-use Rattle.network.proofs.Accepted.{outside-closed}
+use Rattle.network.proofs.Accepted.{Accepted, accepted-closed, file-proper, outside-closed}
 
 -- a number that is given
 given : {f : List ℕ} {k : ℕ} → k ≢ 0 → fileRefusal f ≡ plain k → HeaderNumber f k
@@ -93,6 +94,14 @@ gives-8 {f} k h o e l =
 -- neither
 pub gives-0 : {f : List ℕ} → Header f → outside (graphOf f) ≡ graphOf f .size → graphOf f .size ≤ repeat (graphOf f) → none ≡ fileRefusal f
 gives-0 {f} h o l = sym (header-rest h ∙ rw (le-ltb (outside (graphOf f)) (graphOf f .size) (omega arith), le-ltb (repeat (graphOf f)) (graphOf f .size) l))
+
+-- every edge of an accepted file can be read
+pub accepted-sound : {f : List ℕ} → Accepted f → Sound f
+accepted-sound a = record { order-most = a .order-most; size-most = a .size-most; exact = a .exact; closed = accepted-closed a }
+
+-- a refusal that was found to be number 0 was none
+pub found-none : (f : List ℕ) {r : Refusal} → r ≡ fileRefusal f → r .number ≡ 0 → fileRefusal f ≡ none
+found-none f e z = file-proper f .number-none (ap (λ t. t .number) (sym e) ∙ z)
 
 -- where no edge is outside, every edge can be read
 pub header-sound : {f : List ℕ} → Header f → outside (graphOf f) ≡ graphOf f .size → Sound f

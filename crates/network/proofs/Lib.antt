@@ -8,3 +8,4 @@ pub mod Repeats
 pub mod Compare
 pub mod Headers
 pub mod Answers
+pub mod Counted

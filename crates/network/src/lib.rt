@@ -1,5 +1,6 @@
 // The network file: what its bytes mean, and the numbers by which a call refuses its input.
 mod checks;
+mod counts;
 mod files;
 mod orders;
 
@@ -15,6 +16,19 @@ pub enum CheckAnswer {
     Refused(Refusal),
 }
 
+// 01: E, |S| and |T|.
+pub struct Totals {
+    pub edges: u32,
+    pub sources: usize,
+    pub targets: usize,
+}
+
+// What the count answers.
+pub enum CountAnswer {
+    Counted(Totals),
+    Refused(Refusal),
+}
+
 // A side of an edge. 01: the voucher is the source, the vouched member the target.
 pub enum Side {
     Source,
@@ -23,6 +37,9 @@ pub enum Side {
 
 pub use checks::check;
 pub use checks::file_refusal;
+pub use counts::count;
+pub use counts::edges_between;
+pub use counts::size_of;
 pub use files::end_at;
 pub use files::u16_at;
 pub use files::wide;

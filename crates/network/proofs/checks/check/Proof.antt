@@ -1,8 +1,9 @@
 -- `check` tells the refusal of the file, or n and m.
-use mathlib.Core.Path.{_≡_, sym, ap, _∙_}
+use mathlib.Core.Path.{_≡_}
 use native.Mathlib.Omega.{arith}
 use Rattle.network.specs.File.{none, fileRefusal}
-use Rattle.network.proofs.Accepted.{Accepted, accepted, file-proper}
+use Rattle.network.proofs.Accepted.{Accepted, accepted}
+use Rattle.network.proofs.Headers.{found-none}
 use Rattle.network.proofs.Answers.{check-refused, check-accepted}
 use borrow.Author.Needs.{needs}
 use Rattle.network.proofs.checks.check.Statement.{statement}
@@ -20,9 +21,7 @@ returns c = check-refused (c .before .before .file-refusal .ensures) (c .if1 .ta
 
 -- the file is accepted
 gives-none : (c : tie.Else1) → fileRefusal (c .before .before .before .before .args .file .now) ≡ none
-gives-none c =
-    let f = c .before .before .before .before .args .file .now in
-    file-proper f .number-none (ap (λ r. r .number) (sym (c .before .before .file-refusal .ensures)) ∙ c .if1 .left)
+gives-none c = found-none _ (c .before .before .file-refusal .ensures) (c .if1 .left)
 
 -- so it is long enough
 accept : (c : tie.Else1) → Accepted (c .before .before .before .before .args .file .now)
