@@ -12,4 +12,6 @@ pub mod Search
 pub mod Weights
 pub mod Found
 pub mod Linkage
+pub mod Links
+pub mod Ascents
 pub mod Cover

@@ -1,0 +1,10 @@
+pub mod Live
+pub mod Queues
+pub mod Tables
+pub mod Kept
+pub mod Raises
+pub mod Drops
+pub mod Passes
+pub mod Takes
+pub mod Whole
+pub mod Finished
