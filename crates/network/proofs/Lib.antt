@@ -9,3 +9,5 @@ pub mod Compare
 pub mod Headers
 pub mod Answers
 pub mod Counted
+pub mod Puts
+pub mod Writer

@@ -4,5 +4,6 @@ pub mod Tables
 pub mod Answers
 pub mod Checks
 pub mod Counts
+pub mod Writes
 pub mod Sides
 pub mod Sorts

@@ -3,6 +3,7 @@ mod checks;
 mod counts;
 mod files;
 mod orders;
+mod writes;
 
 // A refusal's number, and the number of the edge for the refusals that name one (else 0). No refusal is number 0.
 pub struct Refusal {
@@ -29,6 +30,12 @@ pub enum CountAnswer {
     Refused(Refusal),
 }
 
+// What the writer answers: m, or the refusal.
+pub enum WriteAnswer {
+    Written { size: usize },
+    Refused(Refusal),
+}
+
 // A side of an edge. 01: the voucher is the source, the vouched member the target.
 pub enum Side {
     Source,
@@ -46,3 +53,4 @@ pub use files::wide;
 pub use files::wide16;
 pub use orders::fill_starts;
 pub use orders::order;
+pub use writes::write;
