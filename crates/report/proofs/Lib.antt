@@ -1,0 +1,4 @@
+pub mod Decimal
+pub mod Puts
+pub mod Lengths
+pub mod Examples
