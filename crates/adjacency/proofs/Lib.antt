@@ -1,4 +1,4 @@
 pub mod Refusals
 pub mod Places
-pub mod Files
 pub mod Neighbours
+pub mod IndexCalls

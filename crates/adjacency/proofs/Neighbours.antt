@@ -24,7 +24,7 @@ use Rattle.network.specs.Tables.{outStarts, outRows, inStarts, inRows}
 use Rattle.adjacency.specs.Rows.{RowCall, bySide}
 use Rattle.adjacency.specs.Neighbours.{neighbours}
 use Rattle.adjacency.proofs.Refusals.{Row, row-accepted}
-use Rattle.adjacency.proofs.Files.{file-closed, file-simple}
+use Rattle.network.proofs.Accepted.{Accepted, accepted, accepted-closed, accepted-simple}
 use Rattle.adjacency.proofs.Places.{place, place-first, place-last, rows-to}
 
 -- starts ascend
@@ -109,8 +109,13 @@ row-neighbours {g} closed simple u l c =
 
 -- in the tables that the index call fills for an accepted file, from either side
 module _ (f : List ℕ) (h : fileRefusal f ≡ none) (os or is ir : List ℕ) (u : ℕ) (l : u < graphOf f .order) where
+  -- the file is accepted
+  ok : Accepted f
+  ok = accepted f .0 h
+
+  -- the row of a vertex is its neighbours, ascending
   pub file-neighbours : (side : Side) {r : List ℕ}
       → RowCall (bySide side (outStarts f ++ os) (inStarts f ++ is)) (bySide side (outRows f ++ or) (inRows f ++ ir)) u r → r ≡ neighbours (seen side (graphOf f)) u
-  file-neighbours Source c = index-neighbours (graphOf f) os or u l (file-closed f h) (file-simple f h) c
+  file-neighbours Source c = index-neighbours (graphOf f) os or u l (accepted-closed ok) (accepted-simple ok) c
   file-neighbours Target c =
-      index-neighbours (reverse (graphOf f)) is ir u l (closed-reverse (file-closed f h)) (λ d e m n s t. file-simple f h d e m n t s) c
+      index-neighbours (reverse (graphOf f)) is ir u l (closed-reverse (accepted-closed ok)) (λ d e m n s t. accepted-simple ok d e m n t s) c

@@ -1,15 +1,9 @@
 // A row of the index is a part of the lent table, not a copy.
 use network::Side;
-ghost use Prim.Native.Nat.{_<_};
+use network::wide16;
 ghost use mathlib.Core.Path.{_≡_};
 ghost use Rattle.network.specs.Refusals.{rowRefusal};
 ghost use Rattle.adjacency.specs.Rows.{RowCall, bySide};
-
-fn wide16(x: u16) -> usize
-    ensures { λ r. ⌜ (r ≡ x) × (r < 65536) ⌝ }
-{
-    x as usize
-}
 
 // The number that refuses a row of one side's tables, or 0.
 fn refusal_of(starts: &[u16], rows: &[u16], member: usize) -> u16

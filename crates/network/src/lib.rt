@@ -53,4 +53,5 @@ pub use files::wide;
 pub use files::wide16;
 pub use orders::fill_starts;
 pub use orders::order;
+pub use orders::other;
 pub use writes::write;
