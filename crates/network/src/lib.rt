@@ -1,9 +1,5 @@
 // The network file: what its bytes mean, and the numbers by which a call refuses its input.
-mod checks;
-mod counts;
 mod files;
-mod orders;
-mod writes;
 
 // A refusal's number, and the number of the edge for the refusals that name one (else 0). No refusal is number 0.
 pub struct Refusal {
@@ -42,16 +38,7 @@ pub enum Side {
     Target,
 }
 
-pub use checks::check;
-pub use checks::file_refusal;
-pub use counts::count;
-pub use counts::edges_between;
-pub use counts::size_of;
 pub use files::end_at;
 pub use files::u16_at;
 pub use files::wide;
 pub use files::wide16;
-pub use orders::fill_starts;
-pub use orders::order;
-pub use orders::other;
-pub use writes::write;

@@ -1,0 +1,76 @@
+-- `is_ascending` finds each edge before the next. The invariant: so it is with the edges before e.
+use Prim.Native.Nat.{ℕ, suc, _+_, _<_, _≤_, _-_}
+use mathlib.Core.Bool.{Bool, true}
+use mathlib.Core.Path.{_≡_, sym, _∙_}
+use native.Mathlib.Decide.{decLe}
+use borrow.Author.Tests.{not-false}
+use Rattle.network.specs.File.{graphOf}
+use Rattle.network.specs.Checks.{ascends}
+use Rattle.network.proofs.Repeats.{ascending-simple}
+use native.Mathlib.Omega.{arith}
+use borrow.Author.Needs.{needs}
+use Rattle.calls.proofs.checks.is_ascending.Statement.{statement}
+use Rattle.calls.proofs.checks.is_ascending.Tie as tie
+use Rattle.calls.proofs.checks.is_ascending.Reads as reads
+use Rattle.calls.proofs.checks.is_ascending.Lts as lts
+use Rattle.calls.proofs.checks.is_before.Reads as is-before-reads
+use Rattle.network.proofs.u16_at.Reads as u16-at-reads
+
+abbrev Inv-loop : tie.InvT-loop
+Inv-loop file size e₀ e = (1 ≤ e) × ((d : ℕ) → suc d < e → ascends (graphOf file) d (suc d) ≡ true)
+
+abbrev μ-loop : tie.MeasureT-loop
+μ-loop file size e₀ e = size - e
+
+u16-at-requires : tie.Need-u16-at-requires Inv-loop μ-loop
+u16-at-requires c κs = search needs
+
+loop-holds : tie.Need-loop-holds Inv-loop μ-loop
+loop-holds c = (search needs, λ d l. absurd (omega arith))
+
+sub-is-before : tie.Need-sub-is-before Inv-loop μ-loop
+sub-is-before c = search needs
+
+is-before-requires : tie.Need-is-before-requires Inv-loop μ-loop
+is-before-requires c κs = search needs
+
+returns : tie.Need-returns Inv-loop μ-loop
+returns c h = let z : _≡_ {A = ℕ} 0 1 = cc in absurd (omega arith)
+
+add-e : tie.Need-add-e Inv-loop μ-loop
+add-e c = search needs
+
+loop-less : tie.Need-loop-less Inv-loop μ-loop
+loop-less c = search needs
+
+-- what holds of each two neighbours before e, and of the two at e, holds of those before e + 1
+next : (p : ℕ → ℕ → Bool) (e : ℕ) → 1 ≤ e → ((d : ℕ) → suc d < e → p d (suc d) ≡ true) → p (e - 1) e ≡ true → (d : ℕ) → suc d < e + 1 → p d (suc d) ≡ true
+next p e l old new d h =
+    elim (decLe (suc (suc d)) e) [ yes m ↦ old d m | no m ↦ (let q : d ≡ e - 1 = omega arith in let r : suc d ≡ e = omega arith in rw (r, q) new) ]
+
+loop-again : tie.Need-loop-again Inv-loop μ-loop
+loop-again c =
+    let l = c .before .before .before .loop in
+    let f = c .before .before .before .before .before .before .args .file .now in (
+      search needs,
+      next (ascends (graphOf f)) (l .e) (omega arith) (l .inv .1) (sym (c .before .is-before .ensures) ∙ not-false _ (c .if1 .left)),
+    )
+
+returns-2 : tie.Need-returns-2 Inv-loop μ-loop
+returns-2 c h = ascending-simple (graphOf (c .before .before .before .before .args .file .now)) (λ d l. c .before .loop .inv .1 d (omega (arith, c .before .before .u16-at .ensures)))
+
+pub is-ascending-spec : {M : Type 1} → statement M
+is-ascending-spec =
+    tie.close
+    (tie.spec
+    Inv-loop
+    μ-loop
+    u16-at-requires
+    loop-holds
+    sub-is-before
+    is-before-requires
+    returns
+    add-e
+    loop-less
+    loop-again
+    returns-2)

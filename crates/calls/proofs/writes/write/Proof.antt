@@ -1,0 +1,84 @@
+-- `write` refuses by the file, then by a short output; else it stores the ordered file.
+use Prim.Native.Nat.{_≤_}
+use mathlib.Core.Path.{_≡_, ap, _∙_}
+use native.Mathlib.Omega.{arith}
+use lib.ListN.{length}
+use Rattle.network.specs.File.{graphOf, none, fileRefusal}
+use Rattle.network.specs.Refusals.{fileLength}
+use Rattle.network.specs.Sides.{Sound}
+use Rattle.network.proofs.Accepted.{accepted}
+use Rattle.network.proofs.Headers.{accepted-sound, found-none}
+use Rattle.network.proofs.Writer.{write-file, write-short, write-none, write-refused, write-accepted}
+use borrow.Author.Needs.{needs}
+use Rattle.calls.proofs.writes.write.Statement.{statement}
+use Rattle.calls.proofs.writes.write.Tie as tie
+use Rattle.calls.proofs.writes.write.Reads as reads
+use Rattle.calls.proofs.writes.write.Lts as lts
+use Rattle.calls.proofs.checks.file_refusal.Reads as file-refusal-reads
+use Rattle.network.proofs.u16_at.Reads as u16-at-reads
+use Rattle.calls.proofs.writes.put_file.Reads as put-file-reads
+
+file-refusal-requires : tie.Need-file-refusal-requires
+file-refusal-requires c κs = search needs
+
+returns : tie.Need-returns
+returns c =
+    let a = c .before .before .before .before .before .args in
+    let e = c .before .before .file-refusal .ensures in
+    write-refused (e ∙ write-file (a .file .now) (length (a .out .now)) (λ z. c .if1 .taken (ap (λ r. r .number) e ∙ z))) (c .if1 .taken)
+
+-- the function's entry
+abbrev start : tie.Else1 → tie.Start
+start c = c .before .before .before .before .before
+
+-- the file is accepted
+gives-none : (c : tie.Else1) → fileRefusal (start c .args .file .now) ≡ none
+gives-none c = found-none _ (c .before .before .file-refusal .ensures) (c .if1 .left)
+
+-- so every edge of it can be read
+sound : (c : tie.Else1) → Sound (start c .args .file .now)
+sound c = accepted-sound (accepted (start c .args .file .now) .0 (gives-none c))
+
+u16-at-requires : tie.Need-u16-at-requires
+u16-at-requires c κs = omega (arith, sound c .exact)
+
+mul-if2 : tie.Need-mul-if2
+mul-if2 c = search needs
+
+add-if2 : tie.Need-add-if2
+add-if2 c = search needs
+
+returns-2 : tie.Need-returns-2
+returns-2 c =
+    let b = c .before .before in
+    write-refused (write-short (start b .args .file .now) _ (gives-none b) (omega (arith, c .before .u16-at .ensures, c .if2 .taken))) (omega arith)
+
+-- the output is long enough
+long : (c : tie.Else2) → fileLength (graphOf (start (c .before .before) .args .file .now)) ≤ length (start (c .before .before) .args .out .now)
+long c = omega (arith, c .before .u16-at .ensures, c .if2 .left)
+
+put-file-requires : tie.Need-put-file-requires
+put-file-requires c κs = (sound (c .before .before .before), long (c .before))
+
+same-length : tie.Need-same-length
+same-length c = search needs
+
+returns-3 : tie.Need-returns-3
+returns-3 c =
+    let d = c .before .before .before .before in
+    let b = d .before .before in
+    write-accepted (write-none (start b .args .file .now) _ (gives-none b) (long d)) (d .before .u16-at .ensures .0) (long d) (c .before .before .put-file .ensures)
+
+pub write-spec : {M : Type 1} → statement M
+write-spec =
+    tie.close
+    (tie.spec
+    file-refusal-requires
+    returns
+    u16-at-requires
+    mul-if2
+    add-if2
+    returns-2
+    put-file-requires
+    same-length
+    returns-3)

@@ -1,0 +1,205 @@
+// The check of a file: the numbers 1 to 8, in order.
+use network::CheckAnswer;
+use network::Refusal;
+use network::Side;
+use network::end_at;
+use network::u16_at;
+use network::wide16;
+use ordering::order;
+ghost use mathlib.Core.Path.{_≡_};
+ghost use mathlib.Core.Bool.{true, cond, _&&_};
+ghost use Prim.Native.Nat.{ℕ, _+_, _*_, _<_, _≤_};
+ghost use lib.Dec.{ltb};
+ghost use lib.ListN.{length, getD};
+ghost use Rattle.graph.specs.Graph.{Simple};
+ghost use Rattle.graph.specs.Order.{Sorted, precedes};
+ghost use Rattle.network.specs.File.{graphOf, marked, outside, same, repeat, fileRefusal};
+ghost use Rattle.network.specs.Sides.{Sound};
+ghost use Rattle.network.specs.Checks.{Header, HeaderNumber, CheckCall, ascends};
+
+// 01: bytes 0 to 2 are the mark.
+fn is_marked(file: &[u8]) -> bool
+    requires { ⌜ 9 ≤ length (now file) ⌝ }
+    ensures { λ r. ⌜ r ≡ marked (now (file .entry)) ⌝ }
+{
+    let mark = b"VCH";
+    if file[0] != mark[0] {
+        return false;
+    }
+    if file[1] != mark[1] {
+        return false;
+    }
+    file[2] == mark[2]
+}
+
+// The number that the first 9 bytes and the length give, 1 to 6, or 0.
+fn header_number(file: &[u8]) -> u16
+    ensures { λ r. ⌜ HeaderNumber (now (file .entry)) r ⌝ }
+{
+    if file.len() < 9 {
+        return 1;
+    }
+    if !is_marked(file) {
+        return 2;
+    }
+    if u16_at(file, 3) != 1 {
+        return 3;
+    }
+    if 2048 < u16_at(file, 5) {
+        return 4;
+    }
+    let size = u16_at(file, 7);
+    if 8192 < size {
+        return 5;
+    }
+    if file.len() != 9 + 4 * size {
+        return 6;
+    }
+    0
+}
+
+// The first edge that names a vertex not below n, or m.
+fn first_outside(file: &[u8]) -> usize
+    requires { ⌜ Header (now file) ⌝ }
+    ensures { λ r. ⌜ r ≡ outside (graphOf (now (file .entry))) ⌝ }
+{
+    let order = u16_at(file, 5);
+    let size = u16_at(file, 7);
+    for e in 0..size {
+        if order <= end_at(file, Side::Source, e) {
+            return e;
+        }
+        if order <= end_at(file, Side::Target, e) {
+            return e;
+        }
+    }
+    size
+}
+
+fn is_same(file: &[u8], d: usize, e: usize) -> bool
+    requires { ⌜ (13 + 4 * d ≤ length (now file)) × (13 + 4 * e ≤ length (now file)) ⌝ }
+    ensures { λ r. ⌜ r ≡ same (graphOf (now (file .entry))) d e ⌝ }
+{
+    if end_at(file, Side::Source, d) != end_at(file, Side::Source, e) {
+        return false;
+    }
+    end_at(file, Side::Target, d) == end_at(file, Side::Target, e)
+}
+
+// Whether edge d comes before edge e and is not the same.
+fn is_before(file: &[u8], d: usize, e: usize) -> bool
+    requires { ⌜ (13 + 4 * d ≤ length (now file)) × (13 + 4 * e ≤ length (now file)) ⌝ }
+    ensures { λ r. ⌜ r ≡ ascends (graphOf (now (file .entry))) d e ⌝ }
+{
+    let source = end_at(file, Side::Source, d);
+    let next = end_at(file, Side::Source, e);
+    if source < next {
+        return true;
+    }
+    if next < source {
+        return false;
+    }
+    end_at(file, Side::Target, d) < end_at(file, Side::Target, e)
+}
+
+// Whether each edge comes before the next: then no edge repeats another, and nothing has to be sorted to see it.
+fn is_ascending(file: &[u8]) -> bool
+    requires { ⌜ Sound (now file) ⌝ }
+    ensures { λ r. ⌜ (r ≡ true → Simple (graphOf (now (file .entry)))) ⌝ }
+{
+    let size = u16_at(file, 7);
+    let mut e = 1;
+    while e < size {
+        if !is_before(file, e - 1, e) {
+            return false;
+        }
+        e += 1;
+    }
+    true
+}
+
+// `edge` where it is less than `least` and repeats the edge before it, else `least`.
+fn lesser(file: &[u8], before: usize, edge: usize, least: usize) -> usize
+    requires { ⌜ (13 + 4 * before ≤ length (now file)) × (13 + 4 * edge ≤ length (now file)) ⌝ }
+    ensures { λ r. ⌜ r ≡ cond (ltb edge least && same (graphOf (now (file .entry))) before edge) edge least ⌝ }
+{
+    if least <= edge {
+        return least;
+    }
+    if is_same(file, before, edge) {
+        return edge;
+    }
+    least
+}
+
+// The least edge that stands in the order after one that is the same, or m.
+fn least_repeat(file: &[u8], order: &[u16]) -> usize
+    requires { ⌜ Sound (now file) ⌝ }
+    requires { ⌜ graphOf (now file) .size ≤ length (now order) ⌝ }
+    requires { ⌜ Sorted (precedes (graphOf (now file))) (graphOf (now file) .size) (now order) ⌝ }
+    ensures { λ r. ⌜ r ≡ repeat (graphOf (now (file .entry))) ⌝ }
+{
+    let size = u16_at(file, 7);
+    let mut least = size;
+    let mut i = 1;
+    while i < size {
+        let before = wide16(order[i - 1]);
+        let edge = wide16(order[i]);
+        least = lesser(file, before, edge, least);
+        i += 1;
+    }
+    least
+}
+
+// The first edge that repeats an earlier one, or m.
+fn first_repeat(file: &[u8]) -> usize
+    requires { ⌜ Sound (now file) ⌝ }
+    ensures { λ r. ⌜ r ≡ repeat (graphOf (now (file .entry))) ⌝ }
+{
+    if is_ascending(file) {
+        return u16_at(file, 7);
+    }
+    let mut sorted = [0u16; 8192];
+    order(file, Side::Source, &mut sorted);
+    least_repeat(file, &sorted)
+}
+
+// The refusal that the file's own bytes give. Every call on a file begins with it.
+pub fn file_refusal(file: &[u8]) -> Refusal
+    ensures { λ r. ⌜ r ≡ fileRefusal (now (file .entry)) ⌝ }
+{
+    let number = header_number(file);
+    if number != 0 {
+        return Refusal { number, link: 0 };
+    }
+    let size = u16_at(file, 7);
+    let outside = first_outside(file);
+    if outside < size {
+        return Refusal {
+            number: 7,
+            link: outside as u16,
+        };
+    }
+    let repeat = first_repeat(file);
+    if repeat < size {
+        return Refusal {
+            number: 8,
+            link: repeat as u16,
+        };
+    }
+    Refusal { number: 0, link: 0 }
+}
+
+// 01: the check of a file.
+pub fn check(file: &[u8]) -> CheckAnswer
+    ensures { λ r. ⌜ CheckCall (now (file .entry)) r ⌝ }
+{
+    let refusal = file_refusal(file);
+    if refusal.number != 0 {
+        return CheckAnswer::Refused(refusal);
+    }
+    CheckAnswer::Accepted {
+        order: u16_at(file, 5),
+        size: u16_at(file, 7),
+    }
+}

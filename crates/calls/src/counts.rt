@@ -1,0 +1,111 @@
+// The edges between two groups, and the groups' sizes.
+use crate::checks::file_refusal;
+use network::CountAnswer;
+use network::Refusal;
+use network::Side;
+use network::Totals;
+use network::end_at;
+use network::u16_at;
+ghost use mathlib.Core.Bool.{true, _&&_};
+ghost use mathlib.Core.Path.{_≡_};
+ghost use Prim.Native.Nat.{ℕ, _≤_};
+ghost use lib.Dec.{eqb};
+ghost use lib.ListN.{length};
+ghost use Rattle.graph.specs.Range.{sum, if};
+ghost use Rattle.graph.specs.Graph.{edges};
+ghost use Rattle.network.specs.File.{graphOf, groupOf};
+ghost use Rattle.network.specs.Refusals.{isGroup};
+ghost use Rattle.network.specs.Sides.{Sound};
+ghost use Rattle.network.specs.Counts.{CountCall};
+
+// Whether each of the first n bytes is 0 or 1.
+fn is_group(group: &[u8], n: usize) -> bool
+    requires { ⌜ n ≤ length (now group) ⌝ }
+    ensures { λ r. ⌜ r ≡ isGroup n (now (group .entry)) ⌝ }
+{
+    for u in 0..n {
+        if 1 < group[u] {
+            return false;
+        }
+    }
+    true
+}
+
+// 1 for a byte that says in, else 0.
+fn member(byte: u8) -> usize
+    ensures { λ r. ⌜ r ≡ if (eqb byte 1) 1 ⌝ }
+{
+    if byte == 1 { 1 } else { 0 }
+}
+
+// 1 where both bytes say in, else 0.
+fn both(source: u8, target: u8) -> u32
+    ensures { λ r. ⌜ r ≡ if (eqb source 1 && eqb target 1) 1 ⌝ }
+{
+    if source != 1 {
+        return 0;
+    }
+    if target == 1 { 1 } else { 0 }
+}
+
+// 01: the size of a group.
+pub fn size_of(group: &[u8], n: usize) -> usize
+    requires { ⌜ n ≤ length (now group) ⌝ }
+    ensures { λ r. ⌜ r ≡ sum (λ u. if (groupOf (now (group .entry)) u) 1) n ⌝ }
+{
+    let mut total = 0;
+    for u in 0..n {
+        total += member(group[u]);
+    }
+    total
+}
+
+// 01: E(S,T).
+pub fn edges_between(file: &[u8], s: &[u8], t: &[u8]) -> u32
+    requires { ⌜ Sound (now file) ⌝ }
+    requires { ⌜ (graphOf (now file) .order ≤ length (now s)) × (graphOf (now file) .order ≤ length (now t)) ⌝ }
+    ensures { λ r. ⌜ r ≡ edges (graphOf (now (file .entry))) (groupOf (now (s .entry))) (groupOf (now (t .entry))) ⌝ }
+{
+    let size = u16_at(file, 7);
+    let mut total: u32 = 0;
+    for e in 0..size {
+        let source = end_at(file, Side::Source, e);
+        let target = end_at(file, Side::Target, e);
+        total += both(s[source], t[target]);
+    }
+    total
+}
+
+// 01: the count call.
+pub fn count(file: &[u8], s: &[u8], t: &[u8]) -> CountAnswer
+    ensures { λ r. ⌜ CountCall (now (file .entry)) (now (s .entry)) (now (t .entry)) r ⌝ }
+{
+    let refusal = file_refusal(file);
+    if refusal.number != 0 {
+        return CountAnswer::Refused(refusal);
+    }
+    let n = u16_at(file, 5);
+    if s.len() < n {
+        return CountAnswer::Refused(Refusal { number: 9, link: 0 });
+    }
+    if t.len() < n {
+        return CountAnswer::Refused(Refusal { number: 9, link: 0 });
+    }
+    if !is_group(s, n) {
+        return CountAnswer::Refused(Refusal {
+            number: 11,
+            link: 0,
+        });
+    }
+    if !is_group(t, n) {
+        return CountAnswer::Refused(Refusal {
+            number: 11,
+            link: 0,
+        });
+    }
+    CountAnswer::Counted(Totals {
+        edges: edges_between(file, s, t),
+        sources: size_of(s, n),
+        targets: size_of(t, n),
+    })
+}
