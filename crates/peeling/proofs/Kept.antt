@@ -1,0 +1,96 @@
+-- What stores to the degrees and to the queue keep: starts, rows, and so the edges between places.
+use Prim.Native.Nat.{ℕ, _+_, _*_, _<_, _≤_}
+use mathlib.Core.List.{List}
+use mathlib.Core.Path.{_≡_, refl, sym, _∙_}
+use native.Mathlib.Omega.{arith}
+use lib.ListN.{set, length-set}
+use lib.Seq.{getD-set-other, drop-set-lt}
+use Rattle.graph.specs.Graph.{Graph}
+use Rattle.graph.specs.Linkage.{degree}
+use Rattle.graph.proofs.Sums.{sum-ext}
+use Rattle.graph.proofs.Linkage.{degree-same}
+use Rattle.graph.proofs.Links.{degree-links}
+use Rattle.peeling.specs.declared.Peel.{Peel}
+use Rattle.peeling.specs.Peeling.{startOf, rowLength, queueOf, entries, links, live, Rows, Indexed, Tabled, Counts, Kept}
+use Rattle.peeling.proofs.Live.{live-ext}
+use Rattle.peeling.proofs.Tables.{row-inside}
+
+-- a table keeps what it has
+pub kept-same : {n m : ℕ} (w : List ℕ) → Kept n m w w
+kept-same w = record { same-length = refl; index = λ i l. refl; past = refl }
+
+-- what is kept twice is kept
+pub kept-next : {n m : ℕ} {w w′ w″ : List ℕ} → Kept n m w w′ → Kept n m w′ w″ → Kept n m w w″
+kept-next a b =
+    record {
+      same-length = b .same-length ∙ a .same-length;
+      index = λ i l. b .index i l ∙ a .index i l;
+      past = b .past ∙ a .past;
+    }
+
+-- a store past the rows, to an entry that a work table needs, keeps them
+pub kept-set : (n m : ℕ) (w : List ℕ) (i v : ℕ) → 2 * n + 1 + 2 * m ≤ i → i < 2 * m + 6 * n + 2 → Kept n m w (set w i v)
+kept-set n m w i v l h =
+    record {
+      same-length = length-set w i v;
+      index = λ j k. getD-set-other w i j v 0 (λ e. omega arith);
+      past = drop-set-lt (2 * m + 6 * n + 2) w i v h;
+    }
+
+module _ {n m : ℕ} {w w′ : List ℕ} (r : Rows n m w) (k : Kept n m w w′) where
+  -- the starts are the same
+  pub start-kept : (p : ℕ) → p ≤ 2 * n → startOf w′ p ≡ startOf w p
+  start-kept p l = k .index p (omega arith)
+
+  -- so the entries of a row are
+  pub entries-kept : (p c q : ℕ) → p < 2 * n → c ≤ rowLength w p → entries n w′ p c q ≡ entries n w p c q
+  unfolding entries
+  entries-kept p c q l h =
+      sum-ext c (λ i b.
+      rw (start-kept p (omega arith), k .index (2 * n + 1 + (startOf w p + i)) (omega (arith, row-inside r p i l (omega arith)))))
+
+  -- and the edges
+  pub links-kept : (p q : ℕ) → p < 2 * n → links n w′ p q ≡ links n w p q
+  unfolding links
+  links-kept p q l = rw (start-kept p (omega arith), start-kept (p + 1) (omega arith)) (entries-kept p _ q l (omega arith))
+
+  -- a table that keeps rows holds rows
+  pub rows-kept : Rows n m w′
+  rows-kept =
+      record {
+        long = omega (arith, r .long, k .same-length);
+        ascending = λ p l. rw (start-kept p (omega arith), start-kept (p + 1) (omega arith)) (r .ascending p l);
+        last = rw (start-kept (2 * n) (omega arith)) (r .last);
+        inside = λ i l. rw (k .index (2 * n + 1 + i) (omega arith)) (r .inside i l);
+        symmetric = λ p q a b. links-kept p q a ∙ r .symmetric p q a b ∙ sym (links-kept q p b);
+      }
+
+  -- where the queues agree, the degrees among what is left are the same
+  pub degree-kept : (h p : ℕ) → ((i : ℕ) → i < h → queueOf n m w i ≡ queueOf n m w′ i) → p < 2 * n
+      → degree (links n w) (2 * n) (live (queueOf n m w) h) p ≡ degree (links n w′) (2 * n) (live (queueOf n m w′) h) p
+  degree-kept h p e l =
+      degree-links (links n w) (links n w′) (live (queueOf n m w) h) p (λ q b. sym (links-kept p q l))
+      ∙ degree-same (links n w′) (λ q b. live-ext h e q) p
+
+  -- and as many sources and targets
+  pub counts-kept : {s s′ : Peel} (h : ℕ) → ((i : ℕ) → i < h → queueOf n m w i ≡ queueOf n m w′ i) → s′ .sources ≡ s .sources → s′ .targets ≡ s .targets
+      → Counts n (live (queueOf n m w) h) s → Counts n (live (queueOf n m w′) h) s′
+  counts-kept h e a b c =
+      record {
+        sources = a ∙ c .sources ∙ sum-ext n (λ p l. rw (live-ext h e p));
+        targets = b ∙ c .targets ∙ sum-ext n (λ p l. rw (live-ext h e (n + p)));
+      }
+
+-- the rows of a graph are so still
+pub indexed-kept : {g : Graph} {w w′ : List ℕ} → Indexed g w → Kept (g .order) (g .size) w w′ → Indexed g w′
+indexed-kept i k = record { rows = rows-kept (i .rows) k; linked = λ p q a b. links-kept (i .rows) k p q a ∙ i .linked p q a b }
+
+-- and so for its numbers of vertices and edges
+pub tabled-kept : {g : Graph} {n m : ℕ} {w w′ : List ℕ} → Tabled g n m w → Kept n m w w′ → Tabled g n m w′
+tabled-kept t k =
+    record {
+      closed = t .closed;
+      indexed = indexed-kept (t .indexed) (rw (t .order, t .size) k);
+      order = t .order;
+      size = t .size;
+    }

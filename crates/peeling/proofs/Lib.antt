@@ -1,0 +1,17 @@
+pub mod Live
+pub mod Queues
+pub mod Tables
+pub mod Kept
+pub mod Raises
+pub mod Drops
+pub mod Passes
+pub mod Takes
+pub mod Whole
+pub mod Finished
+pub mod Bytes
+pub mod Answers
+pub mod Asks
+pub mod Leasts
+pub mod Turns
+pub mod Climbing
+pub mod Levels

@@ -1,0 +1,70 @@
+-- `cores::Peel::drop_first` meets its contract: the place at the head is taken, and its row passed.
+use Prim.Native.Nat.{ℕ, _+_}
+use mathlib.Core.Path.{_≡_, ap, _∙_}
+use native.Mathlib.Omega.{arith}
+use denote.Ref.{now}
+use lib.ListN.{getD}
+use Rattle.peeling.specs.Peeling.{queueOf}
+use Rattle.peeling.proofs.Queues.{queue-most}
+use Rattle.peeling.proofs.Takes.{take-source, take-target, take-next, taken-head}
+use borrow.Author.Needs.{needs}
+use Rattle.peeling.proofs.Peel.drop_first.Statement.{statement}
+use Rattle.peeling.proofs.Peel.drop_first.Tie as tie
+
+-- the place that is read is the one at the head
+is-first : (c : tie.After-wide16) → let g = c .before .before .before .before .before .args in
+    c .wide16 .result ≡ queueOf (g .scope .order) (g .scope .size) (now (g .work)) (g .self .head)
+is-first c =
+    let g = c .before .before .before .before .before .args in
+    c .wide16 .ensures .0 ∙ ap (λ (k : ℕ). getD (now (g .work)) (k + g .self .head) 0) (c .before .before .before .queue-at .ensures)
+
+queue-at-requires : tie.Need-queue-at-requires
+queue-at-requires c κs = search needs
+
+add-at : tie.Need-add-at
+add-at c = omega (arith, queue-most (c .before .before .before .pre .1 .1 .queue))
+
+mul-wide16 : tie.Need-mul-wide16
+mul-wide16 c = omega (arith, queue-most (c .before .before .before .pre .1 .1 .queue))
+
+slice-read-wide16 : tie.Need-slice-read-wide16
+slice-read-wide16 c = omega (arith, queue-most (c .before .before .before .before .pre .1 .1 .queue), c .before .before .before .before .pre .1 .1 .rows .long)
+
+wide16-requires : tie.Need-wide16-requires
+wide16-requires c κs = search needs
+
+take-requires : tie.Need-take-requires
+take-requires c κs =
+    let start = c .before .before .before .before .before .pre in (
+      omega (arith, queue-most (start .1 .1 .queue)),
+      (λ l. take-source (start .1 .1) (start .1 .0) (rw (is-first c) at l), λ l. take-target (start .1 .1) (start .1 .0) (rw (is-first c) at l)),
+    )
+
+lower-row-requires : tie.Need-lower-row-requires
+lower-row-requires c κs =
+    let start = c .before .before .before .before .before .before .before .pre in
+    (start .0, take-next (start .1 .1) (start .1 .0) (is-first (c .before .before)) (c .before .take .ensures))
+
+same-length : tie.Need-same-length
+same-length c = search needs
+
+returns : tie.Need-returns
+returns c =
+    let g = c .before .before .before .before .before .before .before .before .before .before .args in
+    let after = c .before .before .lower-row .ensures in
+    let one = taken-head (g .scope .order) (g .self) (c .before .before .before .before .before .wide16 .result) in
+    (after .0, (after .1 .0 ∙ ap (λ s. s .head) (c .before .before .before .before .take .ensures) ∙ one, after .1 .1))
+
+pub drop-first-spec : {M : Type 1} → statement M
+drop-first-spec =
+    tie.close
+    (tie.spec
+    queue-at-requires
+    add-at
+    mul-wide16
+    slice-read-wide16
+    wide16-requires
+    take-requires
+    lower-row-requires
+    same-length
+    returns)

@@ -1,0 +1,135 @@
+-- A peel while what places need is raised, one place after the other: a place whose degree is not enough any more is pushed.
+use Prim.Native.Nat.{ℕ, _+_, _*_, _<_, _≤_}
+use mathlib.Core.Bool.{Bool, true, false, cond}
+use mathlib.Core.List.{List}
+use mathlib.Core.Logic.{_≢_}
+use mathlib.Core.Path.{_≡_, refl, sym, _∙_}
+use native.Mathlib.Decide.{ℕ-discrete, decLt}
+use native.Mathlib.Nat.{le-refl, ne-of-lt}
+use native.Mathlib.Omega.{arith}
+use borrow.Author.Tests.{lt-ltb, le-ltb, le-leb, lt-leb}
+use lib.Dec.{leb, ltb}
+use Rattle.graph.specs.Cover.{need}
+use Rattle.peeling.specs.declared.Peel.{Peel}
+use Rattle.peeling.specs.Peeling.{degreeOf, queueOf, Peeling, Kept, raised, pushed, withQueued}
+use Rattle.peeling.proofs.Queues.{queue-room, queue-stays, queue-grows}
+use Rattle.peeling.proofs.Tables.{with-queued-same, with-queued-other, with-queued-degree}
+use Rattle.peeling.proofs.Kept.{kept-set, links-kept, rows-kept, degree-kept, counts-kept}
+
+-- places that need the same are short alike
+pub peel-needs : {n m : ℕ} {need need′ : ℕ → ℕ} {w : List ℕ} {s : Peel} → ((p : ℕ) → p < 2 * n → need p ≡ need′ p) → Peeling n m need w s → Peeling n m need′ w s
+peel-needs e k =
+    record {
+      rows = k .rows;
+      waiting = k .waiting;
+      queue = queue-stays (λ p q a b. refl) (λ p b. rw (e p b) (le-refl _)) (λ j b. refl) (k .queue) (λ p b. rw (e p b));
+      counts = k .counts;
+      degrees = k .degrees;
+    }
+
+-- greater numbers are needed of greater x and y
+pub need-more : (n : ℕ) {x y x′ y′ : ℕ} → x ≤ x′ → y ≤ y′ → (p : ℕ) → need n x y p ≤ need n x′ y′ p
+need-more n {x} {y} {x′} {y′} a b p = either (ltb p n)
+  where
+    either : (t : Bool) → cond t x y ≤ cond t x′ y′
+    either true = a
+    either false = b
+
+-- before place i the new number is needed
+pub raised-new : (old new : ℕ → ℕ) {i p : ℕ} → p < i → raised old new i p ≡ new p
+raised-new old new l = rw (lt-ltb _ _ l)
+
+-- from it on the old one
+pub raised-old : (old new : ℕ → ℕ) {i p : ℕ} → i ≤ p → raised old new i p ≡ old p
+raised-old old new l = rw (le-ltb _ _ l)
+
+-- so at first a peel goes by the old numbers
+pub raise-begins : {n m : ℕ} (old new : ℕ → ℕ) {w : List ℕ} {s : Peel} → Peeling n m old w s → Peeling n m (raised old new 0) w s
+raise-begins old new = peel-needs (λ p l. sym (raised-old old new (omega arith)))
+
+-- and past all places by the new ones
+pub raise-ends : {n m : ℕ} (old new : ℕ → ℕ) {w : List ℕ} {s : Peel} (i : ℕ) → 2 * n ≤ i → Peeling n m (raised old new i) w s → Peeling n m new w s
+raise-ends old new i l = peel-needs (λ p b. raised-new old new (omega arith))
+
+-- only place i needs another number one place further
+pub raised-other : (old new : ℕ → ℕ) {i p : ℕ} → p ≢ i → raised old new i p ≡ raised old new (i + 1) p
+raised-other old new {i} {p} h =
+    elim (decLt p i) [
+      | yes l ↦ raised-new old new l ∙ sym (raised-new old new {i = i + 1} (omega arith))
+      | no l ↦ raised-old old new (omega arith) ∙ sym (raised-old old new {i = i + 1} (omega arith))
+    ]
+
+module _ {n m : ℕ} (old new : ℕ → ℕ) {w : List ℕ} {s : Peel} (i : ℕ) (l : i < 2 * n) (more : old i ≤ new i) (k : Peeling n m (raised old new i) w s) where
+  -- place i needs the old number before
+  here : raised old new i i ≡ old i
+  here = raised-old old new (le-refl i)
+
+  -- and the new one after
+  next : raised old new (i + 1) i ≡ new i
+  next = raised-new old new (omega arith)
+
+  -- no place needs less than before
+  grown : (p : ℕ) → p < 2 * n → raised old new i p ≤ raised old new (i + 1) p
+  grown p b = elim (ℕ-discrete p i) [ yes e ↦ rw (e, here, next) more | no e ↦ rw (raised-other old new e) (le-refl _) ]
+
+  -- place i is short as it was, or has enough as it had
+  pub raise-stays : leb (old i) (degreeOf n m w i) ≡ leb (new i) (degreeOf n m w i) → Peeling n m (raised old new (i + 1)) w s
+  raise-stays e =
+      record {
+        rows = k .rows;
+        waiting = k .waiting;
+        queue = queue-stays (λ p q a b. refl) grown (λ j b. refl) (k .queue) (λ p b.
+            elim (ℕ-discrete p i) [ yes q ↦ rw (q, here, next) e | no q ↦ rw (raised-other old new q) ]);
+        counts = k .counts;
+        degrees = k .degrees;
+      }
+
+  -- so it is where its degree was not enough before
+  pub raise-short : degreeOf n m w i < old i → Peeling n m (raised old new (i + 1)) w s
+  raise-short b = raise-stays (lt-leb (old i) _ b ∙ sym (lt-leb (new i) _ (omega arith)))
+
+  -- and where it is enough still
+  pub raise-enough : new i ≤ degreeOf n m w i → Peeling n m (raised old new (i + 1)) w s
+  raise-enough b = raise-stays (le-leb (old i) _ (omega arith) ∙ sym (le-leb (new i) _ b))
+
+  -- place i becomes short, and is pushed
+  module _ (enough : old i ≤ degreeOf n m w i) (less : degreeOf n m w i < new i) where
+    -- then there is room in the queue
+    pub raise-room : s .tail < 2 * n
+    raise-room = queue-room (k .queue) i l (rw here (le-leb _ _ enough))
+
+    -- the store keeps the rows
+    pub raise-keeps : Kept n m w (withQueued n m w (s .tail) i)
+    raise-keeps = kept-set n m w (4 * n + 1 + 2 * m + s .tail) i (omega arith) (omega (arith, raise-room))
+
+    -- and pushes the place
+    pub raise-pushes : Peeling n m (raised old new (i + 1)) (withQueued n m w (s .tail) i) (pushed s)
+    raise-pushes =
+        record {
+          rows = rows-kept (k .rows) raise-keeps;
+          waiting = omega (arith, k .waiting);
+          queue = queue-grows (λ p q a b. sym (links-kept (k .rows) raise-keeps p q a)) grown same (k .queue) i (s .head) l (k .waiting)
+              (with-queued-same n m w (s .tail) i (omega (arith, raise-room, k .rows .long)))
+              (rw here (le-leb _ _ enough))
+              (rw (next, degree i l) less)
+              (rw (← degree-kept (k .rows) raise-keeps (s .head) i before l, degree i l, k .degrees i l) (le-refl _))
+              (λ p b q. rw (raised-other old new q, degree p b));
+          counts = counts-kept (k .rows) raise-keeps (s .head) before refl refl (k .counts);
+          degrees = λ p b. degree p b ∙ k .degrees p b ∙ degree-kept (k .rows) raise-keeps (s .head) p before b;
+        }
+      where
+        -- the queue up to the place pushed is as it was
+        same : (j : ℕ) → j < s .tail → queueOf n m w j ≡ queueOf n m (withQueued n m w (s .tail) i) j
+        same j b = sym (with-queued-other n m w (s .tail) i j (ne-of-lt b))
+
+        -- and so before the head
+        before : (j : ℕ) → j < s .head → queueOf n m w j ≡ queueOf n m (withQueued n m w (s .tail) i) j
+        before j b = same j (omega (arith, k .waiting))
+
+        -- and so are the degrees
+        degree : (p : ℕ) → p < 2 * n → degreeOf n m (withQueued n m w (s .tail) i) p ≡ degreeOf n m w p
+        degree p b = with-queued-degree n m w (s .tail) i p b
+
+    -- at the table and the peel that `push` hands back
+    pub raise-next : {w′ : List ℕ} {s′ : Peel} → s′ ≡ pushed s → w′ ≡ withQueued n m w (s .tail) i → Peeling n m (raised old new (i + 1)) w′ s′ × Kept n m w w′
+    raise-next u t = (rw (u, t) raise-pushes, rw t raise-keeps)

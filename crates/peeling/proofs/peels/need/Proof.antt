@@ -1,0 +1,13 @@
+-- `cores::peels::need` meets its contract: the test on the place decides.
+use borrow.Author.Tests.{lt-ltb, le-ltb}
+use Rattle.peeling.proofs.peels.need.Statement.{statement}
+use Rattle.peeling.proofs.peels.need.Tie as tie
+
+returns : tie.Need-returns
+returns c = simp (lt-ltb _ _ (c .if1 .taken))
+
+returns-2 : tie.Need-returns-2
+returns-2 c = simp (le-ltb _ _ (c .if1 .left))
+
+pub need-spec : {M : Type 1} → statement M
+need-spec = tie.close (tie.spec returns returns-2)

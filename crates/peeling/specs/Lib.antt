@@ -1,0 +1,3 @@
+pub mod Peeling
+pub mod Groups
+pub mod Climbs

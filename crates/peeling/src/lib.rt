@@ -1,0 +1,30 @@
+// Cores and levels: the peel on the lent work table.
+mod climbs;
+mod groups;
+mod peels;
+
+// How far a peel has come: head and tail of the queue of places that are short, and how many places of each side are not dropped.
+pub struct Peel {
+    pub head: usize,
+    pub tail: usize,
+    pub sources: usize,
+    pub targets: usize,
+}
+
+// What a peel goes by: the numbers of vertices and edges, and how many edges a source and a target need.
+pub struct Scope {
+    pub order: usize,
+    pub size: usize,
+    pub x: usize,
+    pub y: usize,
+}
+
+// What a climb raises: what targets need, what sources need, or both alike.
+pub enum Rise {
+    Targets,
+    Sources,
+    Both,
+}
+
+pub use climbs::climb;
+pub use groups::core_in;

@@ -1,0 +1,259 @@
+// The peel: places that are short are queued, and dropped one after the other until none is short. A vertex stands at two places, as a source
+// and as a target, and each is dropped by itself.
+use crate::Peel;
+use crate::Scope;
+use network::wide16;
+ghost use mathlib.Core.Bool.{_||_};
+ghost use mathlib.Core.Path.{_≡_};
+ghost use Prim.Native.Nat.{ℕ, _+_, _-_, _*_, _<_, _≤_};
+ghost use lib.Dec.{eqb};
+ghost use lib.ListN.{length};
+ghost use Rattle.graph.specs.Cover as cover;
+ghost use Rattle.peeling.specs.Peeling.{Small, Rows, Peeling, Dropping, Kept, Ended, rowLength, degreeOf, needOf, raised, pushed, taken, withDegree, withQueued, loweredPeel, loweredTable};
+
+// The edges that a place needs.
+pub fn need(scope: Scope, place: usize) -> usize
+    ensures { λ r. ⌜ r ≡ needOf scope place ⌝ }
+{
+    if place < scope.order {
+        scope.x
+    } else {
+        scope.y
+    }
+}
+
+// Where the degrees start in the work table.
+pub fn degrees_at(scope: Scope) -> usize
+    requires { ⌜ Small (scope .order) (scope .size) ⌝ }
+    ensures { λ r. ⌜ r ≡ 2 * scope .order + 1 + 2 * scope .size ⌝ }
+{
+    2 * scope.order + 1 + 2 * scope.size
+}
+
+// Where the queue starts.
+fn queue_at(scope: Scope) -> usize
+    requires { ⌜ Small (scope .order) (scope .size) ⌝ }
+    ensures { λ r. ⌜ r ≡ 4 * scope .order + 1 + 2 * scope .size ⌝ }
+{
+    4 * scope.order + 1 + 2 * scope.size
+}
+
+// The degree of a place in the whole graph: the length of its row.
+fn fill_degree(work: &mut [u16], scope: Scope, place: usize)
+    requires { ⌜ Small (scope .order) (scope .size) ⌝ }
+    requires { ⌜ Rows (scope .order) (scope .size) (now work) ⌝ }
+    requires { ⌜ place < 2 * scope .order ⌝ }
+    ensures { λ _. ⌜ now (work .exit) ≡ withDegree (scope .order) (scope .size) (now (work .entry)) place (rowLength (now (work .entry)) place) ⌝ }
+{
+    let at = degrees_at(scope) + place;
+    work[at] = work[place + 1] - work[place];
+}
+
+// The degrees of all places in the whole graph.
+fn fill_degrees(work: &mut [u16], scope: Scope)
+    requires { ⌜ Small (scope .order) (scope .size) ⌝ }
+    requires { ⌜ Rows (scope .order) (scope .size) (now work) ⌝ }
+    ensures { λ _. ⌜ Kept (scope .order) (scope .size) (now (work .entry)) (now (work .exit)) ⌝ }
+    ensures { λ _. ⌜ ((p : ℕ) → p < 2 * scope .order → degreeOf (scope .order) (scope .size) (now (work .exit)) p ≡ rowLength (now (work .entry)) p) ⌝ }
+{
+    for place in 0..2 * scope.order {
+        fill_degree(work, scope, place);
+    }
+}
+
+impl Peel {
+    // The peel of the whole graph before anything is asked of a place.
+    pub fn fresh(work: &mut [u16], scope: Scope) -> Peel
+        requires { ⌜ Small (scope .order) (scope .size) ⌝ }
+        requires { ⌜ Rows (scope .order) (scope .size) (now work) ⌝ }
+        ensures { λ r. ⌜ Peeling (scope .order) (scope .size) (cover.need (scope .order) 0 0) (now (work .exit)) r ⌝ }
+        ensures { λ _. ⌜ Kept (scope .order) (scope .size) (now (work .entry)) (now (work .exit)) ⌝ }
+    {
+        fill_degrees(work, scope);
+        Peel {
+            head: 0,
+            tail: 0,
+            sources: scope.order,
+            targets: scope.order,
+        }
+    }
+
+    // The place put at the queue's tail.
+    fn push(self, work: &mut [u16], scope: Scope, place: usize) -> Peel
+        requires { ⌜ Small (scope .order) (scope .size) ⌝ }
+        requires { ⌜ 2 * scope .size + 6 * scope .order + 2 ≤ length (now work) ⌝ }
+        requires { ⌜ (place < 2 * scope .order) × (self .tail < 2 * scope .order) ⌝ }
+        ensures { λ r. ⌜ r ≡ pushed self ⌝ }
+        ensures { λ _. ⌜ now (work .exit) ≡ withQueued (scope .order) (scope .size) (now (work .entry)) (self .tail) place ⌝ }
+    {
+        let at = queue_at(scope) + self.tail;
+        work[at] = place as u16;
+        Peel {
+            tail: self.tail + 1,
+            ..self
+        }
+    }
+
+    // The place pushed where its degree is enough for `scope`, and not for `next`.
+    fn raise(self, work: &mut [u16], scope: Scope, next: Scope, place: usize) -> Peel
+        requires { ⌜ Small (scope .order) (scope .size) ⌝ }
+        requires { ⌜ (next .order ≡ scope .order) × (scope .x ≤ next .x) × (scope .y ≤ next .y) ⌝ }
+        requires { ⌜ place < 2 * scope .order ⌝ }
+        requires { ⌜ Peeling (scope .order) (scope .size) (raised (needOf scope) (needOf next) place) (now work) self ⌝ }
+        ensures { λ r. ⌜ Peeling (scope .order) (scope .size) (raised (needOf scope) (needOf next) (place + 1)) (now (work .exit)) r ⌝ }
+        ensures { λ r. ⌜ r .head ≡ self .head ⌝ }
+        ensures { λ _. ⌜ Kept (scope .order) (scope .size) (now (work .entry)) (now (work .exit)) ⌝ }
+    {
+        let at = degrees_at(scope) + place;
+        let degree = wide16(work[at]);
+        let least = need(scope, place);
+        if degree < least {
+            return self;
+        }
+        let next_least = need(next, place);
+        if next_least <= degree {
+            return self;
+        }
+        self.push(work, scope, place)
+    }
+
+    // Every place pushed whose degree is enough for `scope`, and not for x and y.
+    pub fn tighten(self, work: &mut [u16], scope: Scope, x: usize, y: usize) -> Peel
+        requires { ⌜ Small (scope .order) (scope .size) ⌝ }
+        requires { ⌜ (scope .x ≤ x) × (scope .y ≤ y) ⌝ }
+        requires { ⌜ Peeling (scope .order) (scope .size) (needOf scope) (now work) self ⌝ }
+        ensures { λ r. ⌜ Peeling (scope .order) (scope .size) (cover.need (scope .order) x y) (now (work .exit)) r ⌝ }
+        ensures { λ r. ⌜ r .head ≡ self .head ⌝ }
+        ensures { λ _. ⌜ Kept (scope .order) (scope .size) (now (work .entry)) (now (work .exit)) ⌝ }
+    {
+        let next = Scope { x, y, ..scope };
+        let mut peel = self;
+        for place in 0..2 * scope.order {
+            peel = peel.raise(work, scope, next, place);
+        }
+        peel
+    }
+
+    // One edge of the place lost, and the place pushed where that makes it short.
+    fn lower(self, work: &mut [u16], scope: Scope, place: usize) -> Peel
+        requires { ⌜ Small (scope .order) (scope .size) ⌝ }
+        requires { ⌜ 2 * scope .size + 6 * scope .order + 2 ≤ length (now work) ⌝ }
+        requires { ⌜ (place < 2 * scope .order) × (1 ≤ degreeOf (scope .order) (scope .size) (now work) place) ⌝ }
+        requires { ⌜ (degreeOf (scope .order) (scope .size) (now work) place ≡ needOf scope place → self .tail < 2 * scope .order) ⌝ }
+        ensures { λ r. ⌜ r ≡ loweredPeel (scope .order) (scope .size) (needOf scope) (now (work .entry)) self place ⌝ }
+        ensures { λ _. ⌜ now (work .exit) ≡ loweredTable (scope .order) (scope .size) (needOf scope) (now (work .entry)) self place ⌝ }
+    {
+        let at = degrees_at(scope) + place;
+        let degree = work[at];
+        work[at] = degree - 1;
+        if wide16(degree) == need(scope, place) {
+            self.push(work, scope, place)
+        } else {
+            self
+        }
+    }
+
+    // The head's place taken out of its own side.
+    fn take(self, scope: Scope, place: usize) -> Peel
+        requires { ⌜ self .head < 4096 ⌝ }
+        requires { ⌜ (place < scope .order → 1 ≤ self .sources) × (scope .order ≤ place → 1 ≤ self .targets) ⌝ }
+        ensures { λ r. ⌜ r ≡ taken (scope .order) self place ⌝ }
+    {
+        if place < scope.order {
+            Peel {
+                head: self.head + 1,
+                sources: self.sources - 1,
+                ..self
+            }
+        } else {
+            Peel {
+                head: self.head + 1,
+                targets: self.targets - 1,
+                ..self
+            }
+        }
+    }
+
+    // Each place of the row of a place that was taken has one edge less.
+    fn lower_row(self, work: &mut [u16], scope: Scope, place: usize) -> Peel
+        requires { ⌜ Small (scope .order) (scope .size) ⌝ }
+        requires { ⌜ Dropping (scope .order) (scope .size) (needOf scope) (now work) self place 0 ⌝ }
+        ensures { λ r. ⌜ Peeling (scope .order) (scope .size) (needOf scope) (now (work .exit)) r ⌝ }
+        ensures { λ r. ⌜ r .head ≡ self .head ⌝ }
+        ensures { λ _. ⌜ Kept (scope .order) (scope .size) (now (work .entry)) (now (work .exit)) ⌝ }
+    {
+        let rows = 2 * scope.order + 1;
+        let end = rows + wide16(work[place + 1]);
+        let mut k = rows + wide16(work[place]);
+        let mut peel = self;
+        while k < end {
+            let other = wide16(work[k]);
+            peel = peel.lower(work, scope, other);
+            k += 1;
+        }
+        peel
+    }
+
+    // The place at the head dropped: taken out of its own side, and each place of its row lowered.
+    fn drop_first(self, work: &mut [u16], scope: Scope) -> Peel
+        requires { ⌜ Small (scope .order) (scope .size) ⌝ }
+        requires { ⌜ self .head < self .tail ⌝ }
+        requires { ⌜ Peeling (scope .order) (scope .size) (needOf scope) (now work) self ⌝ }
+        ensures { λ r. ⌜ Peeling (scope .order) (scope .size) (needOf scope) (now (work .exit)) r ⌝ }
+        ensures { λ r. ⌜ r .head ≡ self .head + 1 ⌝ }
+        ensures { λ _. ⌜ Kept (scope .order) (scope .size) (now (work .entry)) (now (work .exit)) ⌝ }
+    {
+        let at = queue_at(scope) + self.head;
+        let place = wide16(work[at]);
+        self.take(scope, place).lower_row(work, scope, place)
+    }
+
+    // Places dropped until none is short.
+    pub fn run(self, work: &mut [u16], scope: Scope) -> Peel
+        requires { ⌜ Small (scope .order) (scope .size) ⌝ }
+        requires { ⌜ Peeling (scope .order) (scope .size) (needOf scope) (now work) self ⌝ }
+        ensures { λ r. ⌜ Peeling (scope .order) (scope .size) (needOf scope) (now (work .exit)) r ⌝ }
+        ensures { λ r. ⌜ r .head ≡ r .tail ⌝ }
+        ensures { λ _. ⌜ Kept (scope .order) (scope .size) (now (work .entry)) (now (work .exit)) ⌝ }
+    {
+        let mut peel = self;
+        while peel.head < peel.tail {
+            peel = peel.drop_first(work, scope);
+        }
+        peel
+    }
+
+    // The peel gone on to what `next` asks, and run to its end.
+    pub fn advance(self, work: &mut [u16], scope: Scope, next: Scope) -> Peel
+        requires { ⌜ Small (scope .order) (scope .size) ⌝ }
+        requires { ⌜ (next .order ≡ scope .order) × (next .size ≡ scope .size) × (scope .x ≤ next .x) × (scope .y ≤ next .y) ⌝ }
+        requires { ⌜ Peeling (scope .order) (scope .size) (needOf scope) (now work) self ⌝ }
+        ensures { λ r. ⌜ Ended next (now (work .entry)) (now (work .exit)) r ⌝ }
+    {
+        self.tighten(work, scope, next.x, next.y).run(work, next)
+    }
+
+    // The peel of the whole graph for a scope, run to its end.
+    pub fn whole(work: &mut [u16], scope: Scope) -> Peel
+        requires { ⌜ Small (scope .order) (scope .size) ⌝ }
+        requires { ⌜ Rows (scope .order) (scope .size) (now work) ⌝ }
+        ensures { λ r. ⌜ Ended scope (now (work .entry)) (now (work .exit)) r ⌝ }
+    {
+        let free = Scope {
+            x: 0,
+            y: 0,
+            ..scope
+        };
+        Peel::fresh(work, scope).advance(work, free, scope)
+    }
+
+    // Whether a side has nobody left.
+    pub fn is_empty(self) -> bool
+        ensures { λ r. ⌜ r ≡ eqb (self .sources) 0 || eqb (self .targets) 0 ⌝ }
+    {
+        if self.sources == 0 {
+            return true;
+        }
+        self.targets == 0
+    }
+}
