@@ -1,0 +1,244 @@
+// Each call on small files, refusals included: what 01 says of them is in the file stdout.
+use cogsplice::CheckAnswer;
+use cogsplice::CountAnswer;
+use cogsplice::IndexAnswer;
+use cogsplice::Refusal;
+use cogsplice::Side;
+use cogsplice::WriteAnswer;
+use libc::STDOUT_FILENO;
+
+// A space and a number.
+fn say(number: u64) {
+    io::write_all(STDOUT_FILENO, b" ");
+    io::print_decimal(STDOUT_FILENO, number);
+}
+
+fn end() {
+    io::write_all(STDOUT_FILENO, b"\n");
+}
+
+fn wide(number: u16) -> u64 {
+    number as u64
+}
+
+// Network W of 01.
+fn network_w() -> [u8; 41] {
+    [
+        0x56,
+        0x43,
+        0x48,
+        1,
+        0,
+        6,
+        0,
+        8,
+        0,
+        0,
+        0,
+        3,
+        0,
+        0,
+        0,
+        4,
+        0,
+        1,
+        0,
+        3,
+        0,
+        1,
+        0,
+        4,
+        0,
+        2,
+        0,
+        3,
+        0,
+        2,
+        0,
+        4,
+        0,
+        4,
+        0,
+        5,
+        0,
+        5,
+        0,
+        5,
+        0,
+    ]
+}
+
+fn say_refusal(refusal: Refusal) {
+    io::write_all(STDOUT_FILENO, b" refused");
+    say(wide(refusal.number));
+    say(wide(refusal.link));
+}
+
+fn try_check(file: &[u8]) {
+    io::write_all(STDOUT_FILENO, b"check");
+    let answer = cogsplice::check(file);
+    match answer {
+        CheckAnswer::Accepted { order, size } => {
+            say(order as u64);
+            say(size as u64);
+        }
+        CheckAnswer::Refused(refusal) => say_refusal(refusal),
+    }
+    end();
+}
+
+fn try_count(file: &[u8], s: &[u8], t: &[u8]) {
+    io::write_all(STDOUT_FILENO, b"count");
+    let answer = cogsplice::count(file, s, t);
+    match answer {
+        CountAnswer::Counted(totals) => {
+            say(totals.edges as u64);
+            say(totals.sources as u64);
+            say(totals.targets as u64);
+        }
+        CountAnswer::Refused(refusal) => say_refusal(refusal),
+    }
+    end();
+}
+
+// The answer of the writer, and the output after it.
+fn try_write(file: &[u8], out: &mut [u8]) {
+    io::write_all(STDOUT_FILENO, b"write");
+    let answer = cogsplice::write(file, out);
+    match answer {
+        WriteAnswer::Written { size } => say(size as u64),
+        WriteAnswer::Refused(refusal) => say_refusal(refusal),
+    }
+    say_bytes(out);
+}
+
+fn byte(x: u8) -> u64 {
+    x as u64
+}
+
+fn say_bytes(bytes: &[u8]) {
+    io::write_all(STDOUT_FILENO, b":");
+    for i in 0..bytes.len() {
+        say(byte(bytes[i]));
+    }
+    end();
+}
+
+fn say_table(table: &[u16]) {
+    for i in 0..table.len() {
+        say(wide(table[i]));
+    }
+    end();
+}
+
+fn try_row<'a>(side: Side, member: usize, starts: &'a [u16], rows: &'a [u16]) {
+    io::write_all(STDOUT_FILENO, b"row");
+    let refusal = cogsplice::row_refusal(side, member, starts, rows, starts, rows);
+    say(wide(refusal));
+    io::write_all(STDOUT_FILENO, b":");
+    let row = cogsplice::row(side, member, starts, rows, starts, rows);
+    say_table(row);
+}
+
+// The index of a network of 6 members and 8 links, with one entry more than each table needs.
+fn try_index(file: &[u8]) {
+    let mut out_starts = [7u16; 8];
+    let mut out_rows = [7u16; 9];
+    let mut in_starts = [7u16; 8];
+    let mut in_rows = [7u16; 9];
+    io::write_all(STDOUT_FILENO, b"index");
+    let answer = cogsplice::index(
+        file,
+        &mut out_starts,
+        &mut out_rows,
+        &mut in_starts,
+        &mut in_rows,
+    );
+    match answer {
+        IndexAnswer::Done => {}
+        IndexAnswer::Refused(refusal) => say_refusal(refusal),
+    }
+    end();
+    say_table(&out_starts);
+    say_table(&out_rows);
+    say_table(&in_starts);
+    say_table(&in_rows);
+    try_row(Side::Source, 0, &out_starts, &out_rows);
+    try_row(Side::Source, 3, &out_starts, &out_rows);
+    try_row(Side::Target, 5, &in_starts, &in_rows);
+    try_row(Side::Target, 7, &in_starts, &in_rows);
+}
+
+fn try_rows() {
+    let none = [0u16; 0];
+    let starts = [2u16, 1, 4];
+    let rows = [0u16, 1, 2];
+    try_row(Side::Source, 0, &none, &rows);
+    try_row(Side::Source, 2, &starts, &rows);
+    try_row(Side::Target, 0, &starts, &rows);
+    try_row(Side::Target, 1, &starts, &rows);
+}
+
+// W with one byte changed.
+fn try_changed(at: usize, byte: u8) {
+    let mut file = network_w();
+    if at < 41 {
+        file[at] = byte;
+        try_check(&file);
+    }
+}
+
+// W's first bytes.
+fn try_front(bytes: usize) {
+    let file = network_w();
+    if bytes <= 41 {
+        try_check(&file[0..bytes]);
+    }
+}
+
+fn try_checks() {
+    try_front(41);
+    try_front(8);
+    try_changed(0, 0x57);
+    try_changed(3, 2);
+    try_changed(6, 9);
+    try_changed(8, 33);
+    try_front(40);
+    try_changed(23, 6);
+    try_changed(25, 0);
+}
+
+fn try_counts() {
+    let w = network_w();
+    let s = [1u8, 1, 1, 0, 0, 0, 9];
+    let t = [0u8, 0, 0, 1, 1, 0, 9];
+    let short = [1u8, 0, 0, 1, 1];
+    let wrong = [1u8, 0, 0, 1, 2, 0];
+    try_count(&w, &s, &t);
+    try_count(&w, &t, &s);
+    try_count(&w, &wrong, &short);
+    try_count(&w, &s, &wrong);
+}
+
+// W with its first and its last link exchanged, and too short an output.
+fn try_writes() {
+    let w = network_w();
+    let mut mixed = network_w();
+    mixed[9] = 5;
+    mixed[11] = 5;
+    mixed[37] = 0;
+    mixed[39] = 3;
+    let mut out = [255u8; 43];
+    try_write(&mixed, &mut out);
+    let mut short = [255u8; 40];
+    try_write(&w, &mut short);
+}
+
+fn main() {
+    try_checks();
+    try_counts();
+    try_writes();
+    let w = network_w();
+    try_index(&w);
+    try_rows();
+}
