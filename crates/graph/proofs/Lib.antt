@@ -15,3 +15,6 @@ pub mod Linkage
 pub mod Links
 pub mod Ascents
 pub mod Cover
+pub mod Spans
+pub mod Joined
+pub mod Parts

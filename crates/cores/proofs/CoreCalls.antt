@@ -1,0 +1,217 @@
+-- The calls on cores and levels: each refusal under its condition, and how the answers are told.
+use Prim.Native.Nat.{ℕ, _+_, _*_, _<_, _≤_}
+use mathlib.Core.Bool.{Bool, true, false, cond, _||_, or-true}
+use mathlib.Core.List.{List, _∷_, _++_}
+use mathlib.Core.Logic.{_≢_}
+use mathlib.Core.Path.{_≡_, refl, sym, ap, subst, _∙_}
+use native.Mathlib.Omega.{arith}
+use borrow.Author.Tests.{ltb-false, lt-ltb, le-ltb, eq-eqb, ne-eqb}
+use lib.Dec.{eqb, ltb}
+use lib.ListN.{length, drop}
+use Rattle.graph.specs.Graph.{Graph, Closed}
+use Rattle.network.specs.declared.Refusal.{Refusal}
+use Rattle.network.specs.declared.Totals.{Totals}
+use Rattle.network.specs.File.{graphOf, groupOf, none, plain, fileRefusal}
+use Rattle.network.specs.Refusals.{orElse, workLength, coreRefusal, levelRefusal, equalLevelRefusal}
+use Rattle.network.specs.Tables.{bytesOf}
+use Rattle.network.specs.Sides.{Sound}
+use Rattle.network.proofs.Accepted.{Accepted, accepted, accepted-orElse, cond-none, or-fails, Proper, file-proper, core-proper, cond-proper, none-proper, orElse-proper}
+use Rattle.network.proofs.Answers.{refusal-some, answers-refused, answers-accepted, orElse-first, orElse-second}
+use Rattle.network.proofs.Headers.{accepted-sound}
+use Rattle.peeling.specs.declared.Rise.{Rise}
+use Rattle.peeling.specs.declared.Scope.{Scope}
+use Rattle.peeling.specs.Peeling.{Small, Rows, Tabled, Kept}
+use Rattle.peeling.specs.Groups.{CoreIn}
+use Rattle.peeling.specs.Climbs.{LevelOf, Climbed}
+use Rattle.peeling.proofs.Levels.{climbed-level}
+use Rattle.cores.specs.declared.CoreAnswer.{CoreAnswer}
+use Rattle.cores.specs.declared.CoreAnswer.the-variants.{Done, Refused}
+use Rattle.cores.specs.declared.LevelAnswer as answer
+use Rattle.cores.specs.Places.{Places}
+use Rattle.cores.specs.Calls.{CoreCall, Levelled, LevelCall, WorkKept}
+use Rattle.cores.proofs.PlacesIndexed.{places-indexed}
+
+-- where a test for 9 stands between two refusals, the first two may be read as one
+orElse-nested : (r s : Refusal) (b : Bool) → orElse r (cond b (plain 9) s) ≡ orElse (orElse r (cond b (plain 9) none)) s
+orElse-nested r s b = go (eqb (r .number) 0) refl b
+  where
+    go : (a : Bool) → eqb (r .number) 0 ≡ a → (b : Bool) → cond a (cond b (plain 9) s) r ≡ orElse (cond a (cond b (plain 9) none) r) s
+    go true e true = refl
+    go true e false = refl
+    go false e b = sym (rw e)
+
+module _ (f : List ℕ) (s t w : ℕ) where
+  -- the file's own refusal comes first
+  pub core-file : fileRefusal f .number ≢ 0 → fileRefusal f ≡ coreRefusal f s t w
+  unfolding coreRefusal
+  core-file n = sym (orElse-first _ n)
+
+  module _ (e : fileRefusal f ≡ none) where
+    -- then 9 for a short first group,
+    pub core-short : s < graphOf f .order → plain 9 ≡ coreRefusal f s t w
+    unfolding coreRefusal
+    core-short l = sym (orElse-second _ e ∙ rw (lt-ltb s (graphOf f .order) l))
+
+    -- a short second one,
+    pub core-short-other : t < graphOf f .order → plain 9 ≡ coreRefusal f s t w
+    unfolding coreRefusal
+    core-short-other l = sym (orElse-second _ e ∙ rw (lt-ltb t (graphOf f .order) l, or-true))
+
+    -- or a short work table
+    pub core-short-work : w < workLength (graphOf f) → plain 9 ≡ coreRefusal f s t w
+    unfolding coreRefusal
+    core-short-work l = sym (orElse-second _ e ∙ rw (lt-ltb w (workLength (graphOf f)) l, or-true))
+
+    -- else none
+    pub core-none : graphOf f .order ≤ s → graphOf f .order ≤ t → workLength (graphOf f) ≤ w → coreRefusal f s t w ≡ none
+    unfolding coreRefusal
+    core-none p q l = orElse-second _ e ∙ rw (le-ltb s (graphOf f .order) p, le-ltb t (graphOf f .order) q, le-ltb w (workLength (graphOf f)) l)
+
+-- what an accepted core call has
+pub record CoreReady (f : List ℕ) (s t w : ℕ) : Type 0 where
+  pub sound : Sound f
+  pub sources : graphOf f .order ≤ s
+  pub targets : graphOf f .order ≤ t
+  pub work : workLength (graphOf f) ≤ w
+
+-- where the core call is not refused
+pub core-ready : (f : List ℕ) (s t w : ℕ) → coreRefusal f s t w ≡ none → CoreReady f s t w
+unfolding coreRefusal
+core-ready f s t w e =
+    let (a, r) = accepted-orElse f _ .0 e in
+    let (b, u) = cond-none _ (plain 9) none refl .0 r in
+    let (c, d) = or-fails (ltb s (graphOf f .order) || ltb t (graphOf f .order)) (ltb w (workLength (graphOf f))) .0 b in
+    let (p, q) = or-fails (ltb s (graphOf f .order)) (ltb t (graphOf f .order)) .0 c in
+    record { sound = accepted-sound a; sources = ltb-false _ _ p; targets = ltb-false _ _ q; work = ltb-false _ _ d }
+
+module _ (f : List ℕ) (w : ℕ) where
+  -- the same for the equal level
+  pub equal-file : fileRefusal f .number ≢ 0 → fileRefusal f ≡ equalLevelRefusal f w
+  unfolding equalLevelRefusal
+  equal-file n = sym (orElse-first _ n)
+
+  -- 9 for a short work table
+  pub equal-short : fileRefusal f ≡ none → w < workLength (graphOf f) → plain 9 ≡ equalLevelRefusal f w
+  unfolding equalLevelRefusal
+  equal-short e l = sym (orElse-second _ e ∙ rw (lt-ltb w (workLength (graphOf f)) l))
+
+  -- else none
+  pub equal-none : fileRefusal f ≡ none → workLength (graphOf f) ≤ w → equalLevelRefusal f w ≡ none
+  unfolding equalLevelRefusal
+  equal-none e l = orElse-second _ e ∙ rw (le-ltb w (workLength (graphOf f)) l)
+
+  -- a refusal of number 0 is none
+  pub equal-proper : Proper (equalLevelRefusal f w)
+  unfolding equalLevelRefusal
+  equal-proper = orElse-proper (file-proper f) (search (cond-proper, none-proper))
+
+  -- where there is none, the file is sound and the work table long enough
+  pub equal-ready : equalLevelRefusal f w ≡ none → Sound f × (workLength (graphOf f) ≤ w)
+  unfolding equalLevelRefusal
+  equal-ready e =
+      let (a, r) = accepted-orElse f _ .0 e in
+      (accepted-sound a, ltb-false _ _ (cond-none _ (plain 9) none refl .0 r .0))
+
+  module _ (x : ℕ) where
+    -- the tests of a level are those of the equal level, and then that for 0
+    level-tests : levelRefusal f x w ≡ orElse (equalLevelRefusal f w) (cond (eqb x 0) (plain 12) none)
+    unfolding equalLevelRefusal levelRefusal
+    level-tests = orElse-nested (fileRefusal f) (cond (eqb x 0) (plain 12) none) (ltb w (workLength (graphOf f)))
+
+    -- a level is refused where the equal level is,
+    pub level-equal : equalLevelRefusal f w .number ≢ 0 → equalLevelRefusal f w ≡ levelRefusal f x w
+    level-equal n = sym (level-tests ∙ orElse-first _ n)
+
+    -- by 12 for 0,
+    pub level-zero : equalLevelRefusal f w ≡ none → x ≡ 0 → plain 12 ≡ levelRefusal f x w
+    level-zero e z = sym (level-tests ∙ orElse-second _ e ∙ rw (eq-eqb x 0 z))
+
+    -- else not
+    pub level-none : equalLevelRefusal f w ≡ none → x ≢ 0 → levelRefusal f x w ≡ none
+    level-none e z = level-tests ∙ orElse-second _ e ∙ rw (ne-eqb x 0 z)
+
+-- the table holds the network of the file
+pub file-tabled : {f : List ℕ} {n m : ℕ} {w : List ℕ} → Sound f → Places (graphOf f) w → n ≡ graphOf f .order → m ≡ graphOf f .size → Tabled (graphOf f) n m w
+file-tabled s p i j = record { closed = s .closed; indexed = places-indexed (s .closed) (λ e l. refl) p; order = sym i; size = sym j }
+
+-- so its rows can be walked,
+pub tabled-rows : {g : Graph} {n m : ℕ} {w : List ℕ} → Tabled g n m w → Rows n m w
+tabled-rows b = rw (b .order, b .size) at (b .indexed .rows)
+
+-- and its numbers are small
+pub file-small : {f : List ℕ} {n m : ℕ} → Sound f → n ≡ graphOf f .order → m ≡ graphOf f .size → Small n m
+file-small s i j = record { order = omega (arith, i, s .order-most); size = omega (arith, j, s .size-most) }
+
+-- the entries past those that are needed are the same through both steps
+pub work-kept : (f w w₁ w₂ : List ℕ) {n m : ℕ} → n ≡ graphOf f .order → m ≡ graphOf f .size → length w₁ ≡ length w
+    → drop (workLength (graphOf f)) w₁ ≡ drop (workLength (graphOf f)) w → Kept n m w₁ w₂ → WorkKept f w w₂
+work-kept f w w₁ w₂ {n} {m} i j l d k =
+    let c : 2 * m + 6 * n + 2 ≡ workLength (graphOf f) = rw (i, j) in
+    (k .same-length ∙ l, subst (λ c. drop c w₂ ≡ drop c w₁) c (k .past) ∙ d)
+
+-- a refused core call leaves the tables as they were
+pub core-refused : {f s t w : List ℕ} {x y : ℕ} {q : Refusal} → q ≡ coreRefusal f (length s) (length t) (length w) → q .number ≢ 0 → CoreCall f x y s s t t w w (Refused q)
+core-refused {f} {s} {t} {w} {x} {y} {q} e n =
+    record {
+      numbers = answers-refused _ e n;
+      proper = λ p i. refusal-some (rw (same p i) at n);
+      unchanged = λ h. (refl, refl, refl);
+      core = λ h. absurd (refusal-some n (e ∙ h));
+      sources = λ h. absurd (refusal-some n (e ∙ h));
+      targets = λ h. absurd (refusal-some n (e ∙ h));
+      work = λ h. absurd (refusal-some n (e ∙ h));
+    }
+  where
+    same : (p : Refusal) → Refused q ≡ Refused p → q ≡ p
+    same p i = cc
+
+-- an accepted one writes the core of the file's network
+pub core-done : {f s s′ t t′ w w₁ w₂ : List ℕ} {x y : ℕ} {c : Scope} {r : Totals} → coreRefusal f (length s) (length t) (length w) ≡ none
+    → Tabled (graphOf f) (c .order) (c .size) w₁ → x ≡ c .x → y ≡ c .y → WorkKept f w w₂ → CoreIn c w₁ w₂ s s′ t t′ r → CoreCall f x y s s′ t t′ w w₂ (Done r)
+core-done {f} {s} {s′} {t} {t′} {c = c} {r = r} e b p q k i =
+    record {
+      numbers = answers-accepted e (ap (λ v. 0 ∷ 0 ∷ v) (i .counted (graphOf f) b));
+      proper = λ u v. absurd (never u v);
+      unchanged = λ h. absurd (h e);
+      core = λ h. rw (p, q) (i .core (graphOf f) b);
+      sources = λ h. subst (λ n. s′ ≡ bytesOf n (groupOf s′) ++ drop n s) (sym (b .order)) (i .sources);
+      targets = λ h. subst (λ n. t′ ≡ bytesOf n (groupOf t′) ++ drop n t) (sym (b .order)) (i .targets);
+      work = λ h. k;
+    }
+  where
+    never : (u : Refusal) → Done r ≡ Refused u → ⊥
+    never u v = let z : _≡_ {A = ℕ} 0 1 = cc in omega arith
+
+-- the level of a climb from 1
+pub climb-levelled : {f : List ℕ} {rise : Rise} {fixed : ℕ} {w w₁ w₂ : List ℕ} {n m k : ℕ} → Tabled (graphOf f) n m w₁ → WorkKept f w w₂ → Climbed n m rise fixed 1 w₁ w₂ k
+    → Levelled f rise fixed w w₂ k
+climb-levelled {f} {rise} {fixed} b k c = record { level = climbed-level rise fixed 1 c (λ h. h) b; work = k }
+
+-- a refused level call
+pub level-refused : {refusal : Refusal} {f w : List ℕ} {rise : Rise} {fixed : ℕ} {q : Refusal} → q ≡ refusal → q .number ≢ 0 → LevelCall refusal f rise fixed w w (answer.the-variants.Refused q)
+level-refused {q = q} e n =
+    record {
+      numbers = answers-refused _ e n;
+      proper = λ p i. refusal-some (rw (same p i) at n);
+      unchanged = λ h. refl;
+      level = λ h. absurd (refusal-some n (e ∙ h));
+      work = λ h. absurd (refusal-some n (e ∙ h));
+    }
+  where
+    same : (p : Refusal) → answer.the-variants.Refused q ≡ answer.the-variants.Refused p → q ≡ p
+    same p i = cc
+
+-- an accepted one
+pub level-done : {refusal : Refusal} {f w w′ : List ℕ} {rise : Rise} {fixed k : ℕ} → refusal ≡ none → Levelled f rise fixed w w′ k
+    → LevelCall refusal f rise fixed w w′ (answer.the-variants.At k)
+level-done {k = k} e l =
+    record {
+      numbers = answers-accepted e refl;
+      proper = λ u v. absurd (never u v);
+      unchanged = λ h. absurd (h e);
+      level = λ h. l .level;
+      work = λ h. l .work;
+    }
+  where
+    never : (u : Refusal) → answer.the-variants.At k ≡ answer.the-variants.Refused u → ⊥
+    never u v = let z : _≡_ {A = ℕ} 0 1 = cc in omega arith

@@ -1,0 +1,3 @@
+pub mod PlacesIndexed
+pub mod PlacesFilled
+pub mod CoreCalls

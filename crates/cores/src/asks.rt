@@ -1,0 +1,133 @@
+// The public calls on cores and levels.
+use crate::CoreAnswer;
+use crate::LevelAnswer;
+use crate::places::index_places;
+use calls::file_refusal;
+use network::Refusal;
+use network::u16_at;
+use network::wide16;
+use peeling::Rise;
+use peeling::Scope;
+use peeling::climb;
+use peeling::core_in;
+ghost use Prim.Native.Nat.{_+_, _*_, _<_, _≤_};
+ghost use mathlib.Core.Path.{_≡_};
+ghost use lib.ListN.{length, drop};
+ghost use Rattle.network.specs.File.{graphOf};
+ghost use Rattle.network.specs.Refusals.{workLength};
+ghost use Rattle.network.specs.Sides.{Sound};
+ghost use Rattle.peeling.specs.Climbs.{LevelOf};
+ghost use Rattle.cores.specs.Calls.{coreRefusalOf, levelRefusalOf, equalRefusalOf, CoreCall, LevelCall, Levelled};
+
+// 01: the length of the work table.
+fn work_length(file: &[u8]) -> usize
+    requires { ⌜ Sound (now file) ⌝ }
+    ensures { λ r. ⌜ r ≡ workLength (graphOf (now (file .entry))) ⌝ }
+{
+    2 * u16_at(file, 7) + 6 * u16_at(file, 5) + 2
+}
+
+// The refusal of the core call: the file's, or 9.
+pub fn core_refusal(file: &[u8], s: usize, t: usize, work: usize) -> Refusal
+    ensures { λ r. ⌜ r ≡ coreRefusalOf (now (file .entry)) s t work ⌝ }
+{
+    let refusal = file_refusal(file);
+    if refusal.number != 0 {
+        return refusal;
+    }
+    let order = u16_at(file, 5);
+    if s < order {
+        return Refusal { number: 9, link: 0 };
+    }
+    if t < order {
+        return Refusal { number: 9, link: 0 };
+    }
+    if work < work_length(file) {
+        return Refusal { number: 9, link: 0 };
+    }
+    refusal
+}
+
+// 01: the core call.
+pub fn core(file: &[u8], x: u16, y: u16, s: &mut [u8], t: &mut [u8], work: &mut [u16]) -> CoreAnswer
+    ensures { λ r. ⌜ CoreCall (now (file .entry)) x y (now (s .entry)) (now (s .exit)) (now (t .entry)) (now (t .exit)) (now (work .entry)) (now (work .exit)) r ⌝ }
+{
+    let refusal = core_refusal(file, s.len(), t.len(), work.len());
+    if refusal.number != 0 {
+        return CoreAnswer::Refused(refusal);
+    }
+    index_places(file, work);
+    let scope = Scope {
+        order: u16_at(file, 5),
+        size: u16_at(file, 7),
+        x: wide16(x),
+        y: wide16(y),
+    };
+    CoreAnswer::Done(core_in(work, scope, s, t))
+}
+
+// The refusal of equal_level: the file's, or 9.
+fn equal_refusal(file: &[u8], work: usize) -> Refusal
+    ensures { λ r. ⌜ r ≡ equalRefusalOf (now (file .entry)) work ⌝ }
+{
+    let refusal = file_refusal(file);
+    if refusal.number != 0 {
+        return refusal;
+    }
+    if work < work_length(file) {
+        return Refusal { number: 9, link: 0 };
+    }
+    refusal
+}
+
+// The level of its kind, of a file that is accepted and a work table that is long enough.
+fn level_of(file: &[u8], rise: Rise, fixed: usize, work: &mut [u16]) -> usize
+    requires { ⌜ Sound (now file) ⌝ }
+    requires { ⌜ workLength (graphOf (now file)) ≤ length (now work) ⌝ }
+    ensures { λ r. ⌜ Levelled (now (file .entry)) rise fixed (now (work .entry)) (now (work .exit)) r ⌝ }
+{
+    index_places(file, work);
+    climb(work, u16_at(file, 5), u16_at(file, 7), rise, fixed, 1)
+}
+
+// The level of x or the level across of y.
+fn level_along(file: &[u8], rise: Rise, fixed: u16, work: &mut [u16]) -> LevelAnswer
+    ensures { λ r. ⌜ LevelCall (levelRefusalOf (now (file .entry)) fixed (length (now (work .entry)))) (now (file .entry)) rise fixed (now (work .entry)) (now (work .exit)) r ⌝ }
+{
+    let refusal = equal_refusal(file, work.len());
+    if refusal.number != 0 {
+        return LevelAnswer::Refused(refusal);
+    }
+    if fixed == 0 {
+        return LevelAnswer::Refused(Refusal {
+            number: 12,
+            link: 0,
+        });
+    }
+    LevelAnswer::At(level_of(file, rise, wide16(fixed), work))
+}
+
+// 01: the level of x.
+pub fn level(file: &[u8], x: u16, work: &mut [u16]) -> LevelAnswer
+    ensures { λ r. ⌜ LevelCall (levelRefusalOf (now (file .entry)) x (length (now (work .entry)))) (now (file .entry)) Rise.Targets x (now (work .entry)) (now (work .exit)) r ⌝ }
+{
+    level_along(file, Rise::Targets, x, work)
+}
+
+// 01: the level across, for y.
+pub fn level_across(file: &[u8], y: u16, work: &mut [u16]) -> LevelAnswer
+    ensures { λ r. ⌜ LevelCall (levelRefusalOf (now (file .entry)) y (length (now (work .entry)))) (now (file .entry)) Rise.Sources y (now (work .entry)) (now (work .exit)) r ⌝ }
+{
+    level_along(file, Rise::Sources, y, work)
+}
+
+// 01: the equal level.
+pub fn equal_level(file: &[u8], work: &mut [u16]) -> LevelAnswer
+    ensures { λ r. ⌜ LevelCall (equalRefusalOf (now (file .entry)) (length (now (work .entry)))) (now (file .entry)) Rise.Both 0 (now (work .entry)) (now (work .exit)) r ⌝ }
+{
+    let refusal = equal_refusal(file, work.len());
+    if refusal.number != 0 {
+        return LevelAnswer::Refused(refusal);
+    }
+    LevelAnswer::At(level_of(file, Rise::Both, 0, work))
+}

@@ -1,0 +1,59 @@
+-- One row or column: what the last core of it that a climb reaches comes before, and what the best comes before where it reaches none.
+use Prim.Native.Nat.{ℕ, _<_, _≤_}
+use mathlib.Core.List.{List}
+use native.Mathlib.Nat.{le-trans}
+use Rattle.graph.specs.Graph.{Graph, Closed}
+use Rattle.graph.specs.Core.{Nonempty, Before}
+use Rattle.graph.proofs.Search.{before-refl, level-before, level-across-before, pruned-row, pruned-column}
+use Rattle.network.specs.declared.Side.{Side}
+use Rattle.network.specs.declared.Side.the-variants.{Source, Target}
+use Rattle.peeling.specs.Climbs.{Reached, LevelOf, Climbed}
+use Rattle.peeling.proofs.Levels.{climbed-level, climbed-none}
+use Rattle.finding.specs.declared.Best.{Best}
+use Rattle.finding.specs.Searches.{riseOf, xAt, yAt, InRange, Begins, Tries}
+
+-- the level comes before the rest of its row or column
+line-before : (side : Side) (fixed last : ℕ) {g : Graph} → 1 ≤ fixed → LevelOf g (riseOf side) fixed last
+    → (j : ℕ) → 1 ≤ j → Nonempty g (xAt side fixed j) (yAt side fixed j)
+    → Before (xAt side fixed last) (yAt side fixed last) (xAt side fixed j) (yAt side fixed j)
+line-before Source fixed last f l = level-before l
+line-before Target fixed last f l = level-across-before f l
+
+-- where the core is empty at s, below which the best comes before a row or column, it comes before the whole
+line-pruned : (side : Side) (fixed s : ℕ) (b : Best) {g : Graph} → Closed g
+    → ((j : ℕ) → j < s → Before (b .x) (b .y) (xAt side fixed j) (yAt side fixed j)) → ¬ Reached g (riseOf side) fixed s
+    → (j : ℕ) → 1 ≤ j → Nonempty g (xAt side fixed j) (yAt side fixed j) → Before (b .x) (b .y) (xAt side fixed j) (yAt side fixed j)
+line-pruned Source fixed s b k low none = pruned-row k s low none
+line-pruned Target fixed s b k low none = pruned-column k s low none
+
+-- the pair at j of a row or column
+abbrev pub pairAt : Side → ℕ → ℕ → Best
+pairAt side fixed j = record { x = xAt side fixed j; y = yAt side fixed j }
+
+-- it is in range where both numbers are
+pair-range : (side : Side) {fixed j : ℕ} → 1 ≤ fixed → fixed < 65536 → 1 ≤ j → j < 65536 → InRange (pairAt side fixed j)
+pair-range Source p q i l = record { x-positive = p; y-positive = i; x-small = q; y-small = l }
+pair-range Target p q i l = record { x-positive = i; y-positive = p; x-small = l; y-small = q }
+
+module _ {n m : ℕ} {side : Side} {fixed s : ℕ} {b : Best} {w w′ : List ℕ} {last : ℕ} (i : Begins side fixed b s) (c : Climbed n m (riseOf side) fixed s w w′ last) where
+  -- a climb that does not get to where a row or column begins leaves the best
+  pub tries-none : InRange b → last < s → Tries n m side fixed b w w′ b
+  tries-none r l =
+      record {
+        in-range = r;
+        kept = c .kept;
+        reached = λ g t h. h;
+        before = before-refl (b .x) (b .y);
+        all = λ g t. line-pruned side fixed s b (t .closed) (i .low) (climbed-none (riseOf side) fixed s c l t);
+      }
+
+  -- and one that does gets to a better pair
+  pub tries-some : 1 ≤ fixed → fixed < 65536 → s ≤ last → Tries n m side fixed b w w′ (pairAt side fixed last)
+  tries-some p q l =
+      record {
+        in-range = pair-range side p q (le-trans (i .positive) l) (c .fits l);
+        kept = c .kept;
+        reached = λ g t h. c .holds g t l;
+        before = i .high last l;
+        all = λ g t. line-before side fixed last p (climbed-level (riseOf side) fixed s c (λ h. l) t);
+      }

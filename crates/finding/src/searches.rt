@@ -1,0 +1,113 @@
+// The search for the best [x,y], row by row and then column by column, up to the equal level.
+use crate::Best;
+use crate::Ring;
+use network::Side;
+use peeling::Rise;
+use peeling::Scope;
+use peeling::climb;
+use peeling::core_in;
+ghost use mathlib.Core.Path.{_≡_};
+ghost use Prim.Native.Nat.{_<_, _≤_};
+ghost use lib.ListN.{length};
+ghost use Rattle.peeling.specs.Peeling.{Small, Rows};
+ghost use Rattle.finding.specs.Searches.{riseOf, InRange, Begins, Tries, Searched, Found};
+
+// What rises where the need of a side is fixed.
+fn rise_of(side: Side) -> Rise
+    ensures { λ r. ⌜ r ≡ riseOf side ⌝ }
+{
+    match side {
+        Side::Source => Rise::Targets,
+        Side::Target => Rise::Sources,
+    }
+}
+
+// Where a row or column begins to come before the best: at the first greater product, or at an equal one with a smaller x.
+fn start_of(side: Side, fixed: usize, best: Best) -> usize
+    requires { ⌜ (1 ≤ fixed) × (fixed < 65536) ⌝ }
+    requires { ⌜ InRange best ⌝ }
+    ensures { λ r. ⌜ Begins side fixed best r ⌝ }
+{
+    let product = best.x * best.y;
+    let quotient = product / fixed;
+    if quotient * fixed != product {
+        return quotient + 1;
+    }
+    let x = match side {
+        Side::Source => fixed,
+        Side::Target => quotient,
+    };
+    if x < best.x { quotient } else { quotient + 1 }
+}
+
+// The better of the best and the last core of a row or column.
+fn try_one(
+    work: &mut [u16],
+    order: usize,
+    size: usize,
+    side: Side,
+    fixed: usize,
+    best: Best,
+) -> Best
+    requires { ⌜ Small order size ⌝ }
+    requires { ⌜ Rows order size (now work) ⌝ }
+    requires { ⌜ (1 ≤ fixed) × (fixed < 65536) ⌝ }
+    requires { ⌜ InRange best ⌝ }
+    ensures { λ r. ⌜ Tries order size side fixed best (now (work .entry)) (now (work .exit)) r ⌝ }
+{
+    let start = start_of(side, fixed, best);
+    let last = climb(work, order, size, rise_of(side), fixed, start);
+    if last < start {
+        return best;
+    }
+    match side {
+        Side::Source => Best { x: fixed, y: last },
+        Side::Target => Best { x: last, y: fixed },
+    }
+}
+
+// Every row and then every column up to k.
+fn search(work: &mut [u16], order: usize, size: usize, k: usize) -> Best
+    requires { ⌜ Small order size ⌝ }
+    requires { ⌜ Rows order size (now work) ⌝ }
+    requires { ⌜ k < 65536 ⌝ }
+    ensures { λ r. ⌜ Searched order size k (now (work .entry)) (now (work .exit)) r ⌝ }
+{
+    let mut best = Best { x: k, y: k };
+    let mut side = Side::Source;
+    'search: loop {
+        let mut fixed = 1;
+        loop {
+            if k < fixed {
+                if let Side::Target = side {
+                    break 'search;
+                }
+                break;
+            }
+            best = try_one(work, order, size, side, fixed, best);
+            fixed += 1;
+        }
+        side = Side::Target;
+    }
+    best
+}
+
+// 01: the finding, of every graph whose rows the table holds.
+pub fn find_in(work: &mut [u16], order: usize, size: usize, s: &mut [u8], t: &mut [u8]) -> Ring
+    requires { ⌜ Small order size ⌝ }
+    requires { ⌜ Rows order size (now work) ⌝ }
+    requires { ⌜ (order ≤ length (now s)) × (order ≤ length (now t)) ⌝ }
+    ensures { λ r. ⌜ Found order size (now (work .entry)) (now (work .exit)) (now (s .entry)) (now (s .exit)) (now (t .entry)) (now (t .exit)) r ⌝ }
+{
+    let equal = climb(work, order, size, Rise::Both, 0, 1);
+    let best = search(work, order, size, equal);
+    let x = best.x;
+    let y = best.y;
+    let totals = core_in(work, Scope { order, size, x, y }, s, t);
+    Ring {
+        x,
+        y,
+        equal,
+        totals,
+    }
+}
