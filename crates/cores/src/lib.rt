@@ -18,6 +18,7 @@ pub enum LevelAnswer {
 }
 
 pub use asks::core;
+pub use asks::core_refusal;
 pub use asks::equal_level;
 pub use asks::level;
 pub use asks::level_across;

@@ -2,3 +2,4 @@ pub mod Starts
 pub mod Lines
 pub mod Turns
 pub mod Rings
+pub mod FindingCalls

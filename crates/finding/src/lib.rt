@@ -1,7 +1,9 @@
 // The finding: the non-empty core with the greatest x * y.
 mod compare;
+mod findings;
 mod searches;
 
+use network::Refusal;
 use network::Totals;
 
 // The best [x,y] so far.
@@ -18,5 +20,12 @@ pub struct Ring {
     pub totals: Totals,
 }
 
+// What the finding answers.
+pub enum FindingAnswer {
+    Found(Ring),
+    Refused(Refusal),
+}
+
 pub use compare::equal_findings;
+pub use findings::finding;
 pub use searches::find_in;
