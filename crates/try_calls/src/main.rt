@@ -1,9 +1,13 @@
 // Each call on small files, refusals included: what 01 says of them is in the file stdout.
 use cogsplice::CheckAnswer;
+use cogsplice::CoreAnswer;
 use cogsplice::CountAnswer;
+use cogsplice::FindingAnswer;
 use cogsplice::IndexAnswer;
+use cogsplice::LevelAnswer;
 use cogsplice::Refusal;
 use cogsplice::Side;
+use cogsplice::Totals;
 use cogsplice::WriteAnswer;
 use libc::STDOUT_FILENO;
 
@@ -87,15 +91,17 @@ fn try_check(file: &[u8]) {
     end();
 }
 
+fn say_totals(totals: Totals) {
+    say(totals.edges as u64);
+    say(totals.sources as u64);
+    say(totals.targets as u64);
+}
+
 fn try_count(file: &[u8], s: &[u8], t: &[u8]) {
     io::write_all(STDOUT_FILENO, b"count");
     let answer = cogsplice::count(file, s, t);
     match answer {
-        CountAnswer::Counted(totals) => {
-            say(totals.edges as u64);
-            say(totals.sources as u64);
-            say(totals.targets as u64);
-        }
+        CountAnswer::Counted(totals) => say_totals(totals),
         CountAnswer::Refused(refusal) => say_refusal(refusal),
     }
     end();
@@ -234,6 +240,186 @@ fn try_writes() {
     try_write(&w, &mut short);
 }
 
+// The core of a network of at most 6 members and 8 links, with one entry more than each table needs.
+fn try_core(file: &[u8], x: u16, y: u16) {
+    let mut s = [9u8; 7];
+    let mut t = [9u8; 7];
+    let mut work = [7u16; 55];
+    io::write_all(STDOUT_FILENO, b"core");
+    let answer = cogsplice::core(file, x, y, &mut s, &mut t, &mut work);
+    match answer {
+        CoreAnswer::Done(totals) => say_totals(totals),
+        CoreAnswer::Refused(refusal) => say_refusal(refusal),
+    }
+    say_bytes(&s);
+    say_bytes(&t);
+}
+
+fn say_level(answer: LevelAnswer) {
+    match answer {
+        LevelAnswer::At(level) => say(level as u64),
+        LevelAnswer::Refused(refusal) => say_refusal(refusal),
+    }
+    end();
+}
+
+// The level of x, the level across of x, and the equal level.
+fn try_levels(file: &[u8], x: u16) {
+    let mut work = [7u16; 55];
+    io::write_all(STDOUT_FILENO, b"level");
+    let level = cogsplice::level(file, x, &mut work);
+    say_level(level);
+    io::write_all(STDOUT_FILENO, b"across");
+    let across = cogsplice::level_across(file, x, &mut work);
+    say_level(across);
+    io::write_all(STDOUT_FILENO, b"equal");
+    let equal = cogsplice::equal_level(file, &mut work);
+    say_level(equal);
+}
+
+fn try_finding(file: &[u8]) {
+    let mut s = [9u8; 7];
+    let mut t = [9u8; 7];
+    let mut work = [7u16; 55];
+    io::write_all(STDOUT_FILENO, b"finding");
+    let answer = cogsplice::finding(file, &mut s, &mut t, &mut work);
+    match answer {
+        FindingAnswer::Found(ring) => {
+            say(ring.x as u64);
+            say(ring.y as u64);
+            say(ring.equal as u64);
+            say_totals(ring.totals);
+        }
+        FindingAnswer::Refused(refusal) => say_refusal(refusal),
+    }
+    say_bytes(&s);
+    say_bytes(&t);
+}
+
+// A file that lacks its last byte.
+fn try_cut(file: &[u8]) {
+    if 40 <= file.len() {
+        try_core(&file[0..40], 1, 1);
+    }
+}
+
+// P1 to P5, and needs above every degree.
+fn try_cores(file: &[u8]) {
+    try_core(file, 2, 3);
+    try_core(file, 1, 2);
+    try_core(file, 0, 4);
+    try_core(file, 3, 0);
+    try_core(file, 0, 0);
+    try_core(file, 65535, 65535);
+    try_cut(file);
+    try_levels(file, 0);
+    try_levels(file, 1);
+    try_levels(file, 2);
+    try_levels(file, 3);
+    try_levels(file, 65535);
+}
+
+// One network by all the calls on cores.
+fn try_network(file: &[u8]) {
+    try_core(file, 1, 1);
+    try_levels(file, 1);
+    try_finding(file);
+}
+
+// A star out and one in, P7's two, a member that vouches for itself, and one member with no link.
+fn try_networks() {
+    let star = [
+        0x56u8,
+        0x43,
+        0x48,
+        1,
+        0,
+        4,
+        0,
+        3,
+        0,
+        0,
+        0,
+        1,
+        0,
+        0,
+        0,
+        2,
+        0,
+        0,
+        0,
+        3,
+        0,
+    ];
+    let turned = [
+        0x56u8,
+        0x43,
+        0x48,
+        1,
+        0,
+        4,
+        0,
+        3,
+        0,
+        1,
+        0,
+        0,
+        0,
+        2,
+        0,
+        0,
+        0,
+        3,
+        0,
+        0,
+        0,
+    ];
+    let tie = [
+        0x56u8,
+        0x43,
+        0x48,
+        1,
+        0,
+        6,
+        0,
+        4,
+        0,
+        0,
+        0,
+        1,
+        0,
+        0,
+        0,
+        2,
+        0,
+        3,
+        0,
+        5,
+        0,
+        4,
+        0,
+        5,
+        0,
+    ];
+    let own = [0x56u8, 0x43, 0x48, 1, 0, 1, 0, 1, 0, 0, 0, 0, 0];
+    let alone = [0x56u8, 0x43, 0x48, 1, 0, 1, 0, 0, 0];
+    try_network(&star);
+    try_network(&turned);
+    try_network(&tie);
+    try_network(&own);
+    try_network(&alone);
+}
+
+fn try_equal(x: u16, y: u16) {
+    io::write_all(STDOUT_FILENO, b"equal_findings");
+    if cogsplice::equal_findings(x, y, 2, 3) {
+        say(1);
+    } else {
+        say(0);
+    }
+    end();
+}
+
 fn main() {
     try_checks();
     try_counts();
@@ -241,4 +427,10 @@ fn main() {
     let w = network_w();
     try_index(&w);
     try_rows();
+    try_cores(&w);
+    try_finding(&w);
+    try_networks();
+    try_equal(2, 3);
+    try_equal(2, 2);
+    try_equal(3, 3);
 }
