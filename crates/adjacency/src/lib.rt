@@ -12,6 +12,7 @@ pub enum IndexAnswer {
 
 pub use indexes::fill_rows;
 pub use indexes::index;
+pub use rows::refusal_of;
 pub use rows::row;
 pub use rows::row_of;
 pub use rows::row_refusal;

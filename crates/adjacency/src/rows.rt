@@ -6,7 +6,7 @@ ghost use Rattle.network.specs.Refusals.{rowRefusal};
 ghost use Rattle.adjacency.specs.Rows.{RowCall, bySide};
 
 // The number that refuses a row of one side's tables, or 0.
-fn refusal_of(starts: &[u16], rows: &[u16], member: usize) -> u16
+pub fn refusal_of(starts: &[u16], rows: &[u16], member: usize) -> u16
     ensures { λ r. ⌜ r ≡ (rowRefusal (now (starts .entry)) (now (rows .entry)) member) .number ⌝ }
 {
     if starts.len() < 1 {

@@ -4,7 +4,7 @@ ghost use mathlib.Core.Path.{_≡_};
 ghost use lib.Dec.{eqb};
 
 // 01: whether two findings have the same x and the same y: x and y of one, a and b of the other.
-pub fn equal_findings(x: u16, y: u16, a: u16, b: u16) -> bool
+pub fn equal_findings(x: usize, y: usize, a: usize, b: usize) -> bool
     ensures { λ r. ⌜ r ≡ (eqb x a && eqb y b) ⌝ }
 {
     if x != a {

@@ -410,7 +410,7 @@ fn try_networks() {
     try_network(&alone);
 }
 
-fn try_equal(x: u16, y: u16) {
+fn try_equal(x: usize, y: usize) {
     io::write_all(STDOUT_FILENO, b"equal_findings");
     if cogsplice::equal_findings(x, y, 2, 3) {
         say(1);

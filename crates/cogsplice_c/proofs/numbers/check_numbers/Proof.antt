@@ -1,0 +1,23 @@
+-- `check_numbers` is the definition, case by case.
+use mathlib.Core.Path.{sym, ap, _∙_}
+use Rattle.network.specs.Checks.{checkNumbers}
+use borrow.Author.Needs.{needs}
+use Rattle.cogsplice_c.proofs.numbers.check_numbers.Statement.{statement}
+use Rattle.cogsplice_c.proofs.numbers.check_numbers.Tie as tie
+use Rattle.cogsplice_c.proofs.numbers.check_numbers.Reads as reads
+use Rattle.cogsplice_c.proofs.numbers.check_numbers.Lts as lts
+
+enum-known-answer : tie.Need-enum-known-answer
+enum-known-answer c = search needs
+
+enum-known-answer-2 : tie.Need-enum-known-answer-2
+enum-known-answer-2 c = search needs
+
+returns : tie.Need-returns
+returns c = sym (ap checkNumbers (c .before .answer .given .1))
+
+returns-2 : tie.Need-returns-2
+returns-2 c = sym (ap checkNumbers (c .before .answer2 .given .1))
+
+pub check-numbers-spec : {M : Type 1} → statement M
+check-numbers-spec = tie.close (tie.spec enum-known-answer enum-known-answer-2 returns returns-2)

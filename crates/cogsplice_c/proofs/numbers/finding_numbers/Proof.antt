@@ -1,0 +1,23 @@
+-- `finding_numbers` is the definition, case by case.
+use mathlib.Core.Path.{sym, ap, _∙_}
+use Rattle.finding.specs.Findings.{findingNumbers}
+use borrow.Author.Needs.{needs}
+use Rattle.cogsplice_c.proofs.numbers.finding_numbers.Statement.{statement}
+use Rattle.cogsplice_c.proofs.numbers.finding_numbers.Tie as tie
+use Rattle.cogsplice_c.proofs.numbers.finding_numbers.Reads as reads
+use Rattle.cogsplice_c.proofs.numbers.finding_numbers.Lts as lts
+
+enum-known-answer : tie.Need-enum-known-answer
+enum-known-answer c = search needs
+
+enum-known-answer-2 : tie.Need-enum-known-answer-2
+enum-known-answer-2 c = search needs
+
+returns : tie.Need-returns
+returns c = sym (ap findingNumbers (c .before .answer .given .1))
+
+returns-2 : tie.Need-returns-2
+returns-2 c = sym (ap findingNumbers (c .before .answer2 .given .1))
+
+pub finding-numbers-spec : {M : Type 1} → statement M
+finding-numbers-spec = tie.close (tie.spec enum-known-answer enum-known-answer-2 returns returns-2)

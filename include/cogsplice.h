@@ -1,0 +1,186 @@
+/*
+ * Cogsplice: dense rings in a network of members who vouch for members.
+ *
+ * Link with libcogsplice_c.a (`make lib` puts it into target/staticlib). Every call is proved to do what is said here, for every
+ * input: it has no precondition beyond the three that C cannot check:
+ *   - a table's pointer is valid for the length beside it, counted in entries (NULL only with the length 0);
+ *   - tables that one call may write overlap no other table of that call;
+ *   - tables of uint16_t are aligned as C aligns them.
+ * A call keeps nothing between calls, allocates nothing, and may run in any number of threads on different tables.
+ *
+ * A network file is bytes: the mark "VCH", then numbers of 16 bits, low byte first: the version 1, n (members, at most
+ * COGSPLICE_MEMBERS), m (links, at most COGSPLICE_LINKS), and for each link the voucher and the vouched member. Members are
+ * numbered from 0 to n - 1, links from 0. A link may join a member to itself; no link may stand twice.
+ *
+ * A group is a table of bytes, one for each member: 1 in, 0 out. S is the group of vouchers, T that of the vouched. E(S,T) is
+ * the number of links whose voucher is in S and whose vouched member is in T.
+ *
+ * Every answer has `refusal`: 0 where the call was accepted, else one of COGSPLICE_REFUSED_.., the lowest that applies. Of a
+ * refused call every other number is 0, but for `link`, and no table has changed. `link` is the link's number for refusals 7 and 8,
+ * else 0. A table may be longer than the call needs: what lies past the needed entries is neither read nor changed.
+ */
+#ifndef COGSPLICE_H
+#define COGSPLICE_H
+
+#include <stdbool.h>
+#include <stddef.h>
+#include <stdint.h>
+
+#ifdef __cplusplus
+extern "C" {
+#endif
+
+#define COGSPLICE_MEMBERS 2048
+#define COGSPLICE_LINKS 8192
+
+/* The entries that a table needs, for a file of n members and m links. */
+#define COGSPLICE_FILE(m) (9 + 4 * (size_t)(m))                           /* uint8_t: a network file, the output of the writer */
+#define COGSPLICE_GROUP(n) ((size_t)(n))                                  /* uint8_t: S, T */
+#define COGSPLICE_STARTS(n) ((size_t)(n) + 1)                             /* uint16_t: out_starts, in_starts */
+#define COGSPLICE_ROWS(m) ((size_t)(m))                                   /* uint16_t: out_rows, in_rows */
+#define COGSPLICE_WORK(n, m) (2 * (size_t)(m) + 6 * (size_t)(n) + 2)      /* uint16_t: work; the call's to use, its contents mean nothing */
+
+enum {
+    COGSPLICE_ACCEPTED = 0,
+    COGSPLICE_REFUSED_SHORT = 1,    /* the file is shorter than 9 bytes */
+    COGSPLICE_REFUSED_MARK = 2,     /* its mark is not VCH */
+    COGSPLICE_REFUSED_VERSION = 3,  /* its version is not 1 */
+    COGSPLICE_REFUSED_MEMBERS = 4,  /* n is above COGSPLICE_MEMBERS */
+    COGSPLICE_REFUSED_LINKS = 5,    /* m is above COGSPLICE_LINKS */
+    COGSPLICE_REFUSED_LENGTH = 6,   /* its length is not COGSPLICE_FILE(m) */
+    COGSPLICE_REFUSED_END = 7,      /* a link names a member not below n; the first such link */
+    COGSPLICE_REFUSED_REPEAT = 8,   /* a link repeats an earlier one; the first such link, tested after 7 over all links */
+    COGSPLICE_REFUSED_TABLE = 9,    /* a lent table is shorter than the call needs */
+    COGSPLICE_REFUSED_MEMBER = 10,  /* row: the member is not below n */
+    COGSPLICE_REFUSED_GROUP = 11,   /* count: a byte among the first n of a group is neither 0 nor 1 */
+    COGSPLICE_REFUSED_ZERO = 12,    /* level, level across: asked for 0 */
+    COGSPLICE_REFUSED_LINKLESS = 13,/* finding: the file has no link */
+    COGSPLICE_REFUSED_ROW = 14      /* row: the member's start is above the next start, or that is above the length of the rows table */
+};
+
+/* The side of a row: what a member vouches for, or who vouches for it. */
+#define COGSPLICE_VOUCHER false
+#define COGSPLICE_VOUCHED true
+
+struct cogsplice_check_numbers {
+    uint16_t refusal, link;
+    size_t n, m;
+};
+
+struct cogsplice_totals_numbers {
+    uint16_t refusal, link;
+    uint32_t edges;          /* E(S,T) */
+    size_t sources, targets; /* |S| and |T| */
+};
+
+struct cogsplice_write_numbers {
+    uint16_t refusal, link;
+    size_t m;
+};
+
+struct cogsplice_index_numbers {
+    uint16_t refusal, link;
+};
+
+struct cogsplice_row_numbers {
+    size_t start, length; /* the row is rows[start] to rows[start + length - 1] */
+    uint16_t refusal;
+};
+
+struct cogsplice_level_numbers {
+    uint16_t refusal, link;
+    size_t level;
+};
+
+struct cogsplice_finding_numbers {
+    uint16_t refusal, link;
+    uint32_t edges;          /* E(S,T) */
+    size_t x, y, equal;      /* the finding is the [x,y]-core; equal is the equal level */
+    size_t sources, targets; /* |S| and |T| */
+};
+
+/* n and m of a file. Refusals 1 to 8, as in every call on a file. */
+struct cogsplice_check_numbers cogsplice_check(const uint8_t *file, size_t file_length);
+
+/* E(S,T), |S| and |T| of the groups s and t. Refusals 1 to 8, 9, 11. */
+struct cogsplice_totals_numbers cogsplice_count(
+    const uint8_t *file, size_t file_length,
+    const uint8_t *s, size_t s_length,
+    const uint8_t *t, size_t t_length);
+
+/* Writes the file with its links ascending by voucher, then vouched, into the first COGSPLICE_FILE(m) bytes of out. Refusals 1 to
+ * 8, 9. */
+struct cogsplice_write_numbers cogsplice_write(
+    const uint8_t *file, size_t file_length,
+    uint8_t *out, size_t out_length);
+
+/* Fills the four tables. Entry a of out_starts is the number of links whose voucher is below a; out_rows are the vouched members by
+ * ascending voucher, then ascending vouched. in_starts and in_rows are the same with the sides exchanged. Refusals 1 to 8, 9. */
+struct cogsplice_index_numbers cogsplice_index(
+    const uint8_t *file, size_t file_length,
+    uint16_t *out_starts, size_t out_starts_length,
+    uint16_t *out_rows, size_t out_rows_length,
+    uint16_t *in_starts, size_t in_starts_length,
+    uint16_t *in_rows, size_t in_rows_length);
+
+/* The row of a member on a side, as a part of that side's rows table: its neighbours ascending, where the index filled the tables.
+ * Only that side's two tables are looked at, whatever they hold; the other two may be NULL, 0. n is here the length of the side's
+ * starts table less one. Refusals 9, 10, 14. */
+struct cogsplice_row_numbers cogsplice_row(
+    bool side, size_t member,
+    const uint16_t *out_starts, size_t out_starts_length,
+    const uint16_t *out_rows, size_t out_rows_length,
+    const uint16_t *in_starts, size_t in_starts_length,
+    const uint16_t *in_rows, size_t in_rows_length);
+
+/* The refusal of that row, or 0. */
+uint16_t cogsplice_row_refusal(
+    bool side, size_t member,
+    const uint16_t *out_starts, size_t out_starts_length,
+    const uint16_t *out_rows, size_t out_rows_length,
+    const uint16_t *in_starts, size_t in_starts_length,
+    const uint16_t *in_rows, size_t in_rows_length);
+
+/* Writes the [x,y]-core to s and t: the largest pair in which each member of S has at least x links into T and each member of T at
+ * least y from S. Both groups may be empty. Refusals 1 to 8, 9. */
+struct cogsplice_totals_numbers cogsplice_core(
+    const uint8_t *file, size_t file_length,
+    uint16_t x, uint16_t y,
+    uint8_t *s, size_t s_length,
+    uint8_t *t, size_t t_length,
+    uint16_t *work, size_t work_length);
+
+/* The level of x: the largest y of at least 1 with a non-empty [x,y]-core, or 0. Refusals 1 to 8, 9, 12. */
+struct cogsplice_level_numbers cogsplice_level(
+    const uint8_t *file, size_t file_length,
+    uint16_t x,
+    uint16_t *work, size_t work_length);
+
+/* The level across, for y: the largest x of at least 1 with a non-empty [x,y]-core, or 0. Refusals 1 to 8, 9, 12. */
+struct cogsplice_level_numbers cogsplice_level_across(
+    const uint8_t *file, size_t file_length,
+    uint16_t y,
+    uint16_t *work, size_t work_length);
+
+/* The equal level: the largest k with a non-empty [k,k]-core, or 0. Refusals 1 to 8, 9. */
+struct cogsplice_level_numbers cogsplice_equal_level(
+    const uint8_t *file, size_t file_length,
+    uint16_t *work, size_t work_length);
+
+/* Writes the finding to s and t: the non-empty [x,y]-core, x and y at least 1, with the greatest x * y; among equal products the
+ * smallest x. No pair of groups is more than twice as dense, where the density of S and T is E(S,T) / sqrt(|S| * |T|). Refusals 1
+ * to 8, 9, 13. */
+struct cogsplice_finding_numbers cogsplice_finding(
+    const uint8_t *file, size_t file_length,
+    uint8_t *s, size_t s_length,
+    uint8_t *t, size_t t_length,
+    uint16_t *work, size_t work_length);
+
+/* Whether two findings are equal: x1, y1 of one and x2, y2 of the other. */
+bool cogsplice_equal_findings(size_t x1, size_t y1, size_t x2, size_t y2);
+
+#ifdef __cplusplus
+}
+#endif
+
+#endif

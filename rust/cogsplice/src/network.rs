@@ -1,0 +1,314 @@
+use crate::{file_length, lent, work_length, Refusal, Side};
+
+/// A network file that was accepted.
+#[derive(Clone, Debug, PartialEq, Eq)]
+pub struct Network {
+    file: Vec<u8>,
+    members: usize,
+    links: usize,
+}
+
+/// `E(S,T)`, `|S|` and `|T|`.
+#[derive(Clone, Copy, Debug, PartialEq, Eq)]
+pub struct Totals {
+    pub edges: u32,
+    pub sources: usize,
+    pub targets: usize,
+}
+
+/// Two groups, each ascending, and the number of links from one to the other.
+#[derive(Clone, Debug, PartialEq, Eq)]
+pub struct Pair {
+    pub s: Vec<usize>,
+    pub t: Vec<usize>,
+    pub edges: u32,
+}
+
+/// The non-empty `[x,y]`-core with the greatest `x * y`, among equal products that of the smallest `x`.
+///
+/// No pair of groups is more than twice as dense.
+#[derive(Clone, Debug)]
+pub struct Finding {
+    pub x: usize,
+    pub y: usize,
+    pub equal_level: usize,
+    pub pair: Pair,
+}
+
+impl Finding {
+    /// Whether two findings, of the same network or not, are equal: the same `x` and the same `y`.
+    pub fn equals(&self, other: &Finding) -> bool {
+        lent::equal_findings(self.x, self.y, other.x, other.y)
+    }
+}
+
+/// The members at the other end of each member's links, by side.
+#[derive(Clone, Debug)]
+pub struct Index {
+    out_starts: Vec<u16>,
+    out_rows: Vec<u16>,
+    in_starts: Vec<u16>,
+    in_rows: Vec<u16>,
+}
+
+impl Index {
+    /// On the voucher's side the members that `member` vouches for, on the other those that vouch for it, ascending.
+    ///
+    /// ```
+    /// use cogsplice::{Network, Refusal, Side};
+    /// # fn main() -> Result<(), Refusal> {
+    /// let index = Network::from_links(3, &[(0, 2), (0, 1), (1, 2)])?.index();
+    /// assert_eq!(index.row(Side::Voucher, 0)?, [1, 2]);
+    /// assert_eq!(index.row(Side::Vouched, 2)?, [0, 1]);
+    /// assert_eq!(index.row(Side::Voucher, 3), Err(Refusal::Member));
+    /// # Ok(())
+    /// # }
+    /// ```
+    pub fn row(&self, side: Side, member: usize) -> Result<&[u16], Refusal> {
+        let part = lent::row(
+            side,
+            member,
+            &self.out_starts,
+            &self.out_rows,
+            &self.in_starts,
+            &self.in_rows,
+        );
+        Refusal::of(part.refusal, 0)?;
+        let rows = match side {
+            Side::Voucher => &self.out_rows,
+            Side::Vouched => &self.in_rows,
+        };
+        Ok(&rows[part.start..part.start + part.length])
+    }
+}
+
+impl Network {
+    /// The network of a file's bytes. Refused by 1 to 8.
+    ///
+    /// ```
+    /// use cogsplice::{Network, Refusal};
+    /// assert_eq!(Network::from_file(b"VCH\x01\x00\x02\x00\x00\x00".to_vec()).unwrap().members(), 2);
+    /// assert_eq!(Network::from_file(b"VCH\x02\x00\x02\x00\x00\x00".to_vec()), Err(Refusal::Version));
+    /// ```
+    pub fn from_file(file: Vec<u8>) -> Result<Network, Refusal> {
+        let numbers = lent::check(&file);
+        Refusal::of(numbers.refusal, numbers.link)?;
+        Ok(Network {
+            file,
+            members: numbers.n,
+            links: numbers.m,
+        })
+    }
+
+    /// The network of so many members and these links, each from the voucher to the vouched. Refused by 4, 5, 7 and 8.
+    ///
+    /// ```
+    /// use cogsplice::{Network, Refusal};
+    /// assert_eq!(Network::from_links(2, &[(0, 1), (1, 1), (0, 1)]), Err(Refusal::Repeat { link: 2 }));
+    /// ```
+    pub fn from_links(members: usize, links: &[(usize, usize)]) -> Result<Network, Refusal> {
+        let mut file = b"VCH\x01\x00".to_vec();
+        file.extend(number(members));
+        file.extend(number(links.len()));
+        for &(voucher, vouched) in links {
+            file.extend(number(voucher));
+            file.extend(number(vouched));
+        }
+        Network::from_file(file)
+    }
+
+    /// The file's bytes.
+    pub fn file(&self) -> &[u8] {
+        &self.file
+    }
+
+    /// n, the number of members.
+    pub fn members(&self) -> usize {
+        self.members
+    }
+
+    /// The links in the order of the file.
+    ///
+    /// ```
+    /// let network = cogsplice::Network::from_links(3, &[(2, 0), (0, 1)]).unwrap();
+    /// assert_eq!(network.links().collect::<Vec<_>>(), [(2, 0), (0, 1)]);
+    /// ```
+    pub fn links(&self) -> impl Iterator<Item = (usize, usize)> + '_ {
+        self.file[9..].chunks_exact(4).map(|link| {
+            let voucher = u16::from_le_bytes([link[0], link[1]]);
+            let vouched = u16::from_le_bytes([link[2], link[3]]);
+            (voucher.into(), vouched.into())
+        })
+    }
+
+    /// The same network, its links ascending by voucher, then vouched.
+    ///
+    /// ```
+    /// let network = cogsplice::Network::from_links(3, &[(2, 0), (0, 1)]).unwrap();
+    /// assert_eq!(network.ordered().links().collect::<Vec<_>>(), [(0, 1), (2, 0)]);
+    /// ```
+    pub fn ordered(&self) -> Network {
+        let mut file = vec![0; file_length(self.links)];
+        accepted(lent::write(&self.file, &mut file).refusal);
+        Network {
+            file,
+            members: self.members,
+            links: self.links,
+        }
+    }
+
+    /// The index of the network.
+    pub fn index(&self) -> Index {
+        let mut index = Index {
+            out_starts: vec![0; self.members + 1],
+            out_rows: vec![0; self.links],
+            in_starts: vec![0; self.members + 1],
+            in_rows: vec![0; self.links],
+        };
+        let numbers = lent::index(
+            &self.file,
+            &mut index.out_starts,
+            &mut index.out_rows,
+            &mut index.in_starts,
+            &mut index.in_rows,
+        );
+        accepted(numbers.refusal);
+        index
+    }
+
+    /// `E(S,T)`, `|S|` and `|T|` of two groups, given by their members in any order. Refused by 10 where a member is not below n.
+    ///
+    /// ```
+    /// # fn main() -> Result<(), cogsplice::Refusal> {
+    /// let network = cogsplice::Network::from_links(3, &[(0, 1), (0, 2), (1, 2)])?;
+    /// let totals = network.count(&[0, 1], &[2])?;
+    /// assert_eq!((totals.edges, totals.sources, totals.targets), (2, 2, 1));
+    /// # Ok(())
+    /// # }
+    /// ```
+    pub fn count(&self, s: &[usize], t: &[usize]) -> Result<Totals, Refusal> {
+        let numbers = lent::count(&self.file, &self.group(s)?, &self.group(t)?);
+        Refusal::of(numbers.refusal, numbers.link)?;
+        Ok(Totals {
+            edges: numbers.edges,
+            sources: numbers.sources,
+            targets: numbers.targets,
+        })
+    }
+
+    /// The `[x,y]`-core: the largest pair in which each member of S has at least `x` links into T, and each of T at least `y` from S.
+    ///
+    /// ```
+    /// let star = cogsplice::Network::from_links(3, &[(0, 1), (0, 2)]).unwrap();
+    /// let core = star.core(2, 1);
+    /// assert_eq!((core.s, core.t, core.edges), (vec![0], vec![1, 2], 2));
+    /// assert!(star.core(1, 2).s.is_empty());
+    /// ```
+    pub fn core(&self, x: u16, y: u16) -> Pair {
+        let (mut s, mut t, mut work) = self.tables();
+        let numbers = lent::core(&self.file, x, y, &mut s, &mut t, &mut work);
+        accepted(numbers.refusal);
+        Pair {
+            s: members_of(&s),
+            t: members_of(&t),
+            edges: numbers.edges,
+        }
+    }
+
+    /// The level of `x`: the largest `y` of at least 1 with a non-empty `[x,y]`-core, or 0. Refused by 12 where `x` is 0.
+    ///
+    /// ```
+    /// let star = cogsplice::Network::from_links(3, &[(0, 1), (0, 2)]).unwrap();
+    /// assert_eq!(star.level(2), Ok(1));
+    /// assert_eq!(star.level(3), Ok(0));
+    /// assert_eq!(star.level(0), Err(cogsplice::Refusal::Zero));
+    /// ```
+    pub fn level(&self, x: u16) -> Result<usize, Refusal> {
+        level_of(lent::level(&self.file, x, &mut self.work()))
+    }
+
+    /// The level across, for `y`: the largest `x` of at least 1 with a non-empty `[x,y]`-core, or 0. Refused by 12 where `y` is 0.
+    ///
+    /// ```
+    /// let star = cogsplice::Network::from_links(3, &[(0, 1), (0, 2)]).unwrap();
+    /// assert_eq!(star.level_across(1), Ok(2));
+    /// ```
+    pub fn level_across(&self, y: u16) -> Result<usize, Refusal> {
+        level_of(lent::level_across(&self.file, y, &mut self.work()))
+    }
+
+    /// The equal level: the largest `k` with a non-empty `[k,k]`-core, or 0.
+    ///
+    /// ```
+    /// let star = cogsplice::Network::from_links(3, &[(0, 1), (0, 2)]).unwrap();
+    /// assert_eq!(star.equal_level(), 1);
+    /// ```
+    pub fn equal_level(&self) -> usize {
+        let numbers = lent::equal_level(&self.file, &mut self.work());
+        accepted(numbers.refusal);
+        numbers.level
+    }
+
+    /// The finding. Refused by 13 where the network has no link.
+    ///
+    /// ```
+    /// use cogsplice::{Network, Refusal};
+    /// let star = Network::from_links(4, &[(0, 1), (0, 2), (0, 3)]).unwrap();
+    /// let finding = star.finding().unwrap();
+    /// assert_eq!((finding.x, finding.y), (3, 1));
+    /// assert!(finding.equals(&star.ordered().finding().unwrap()));
+    /// assert_eq!(Network::from_links(4, &[]).unwrap().finding().unwrap_err(), Refusal::Linkless);
+    /// ```
+    pub fn finding(&self) -> Result<Finding, Refusal> {
+        let (mut s, mut t, mut work) = self.tables();
+        let numbers = lent::finding(&self.file, &mut s, &mut t, &mut work);
+        Refusal::of(numbers.refusal, numbers.link)?;
+        Ok(Finding {
+            x: numbers.x,
+            y: numbers.y,
+            equal_level: numbers.equal,
+            pair: Pair {
+                s: members_of(&s),
+                t: members_of(&t),
+                edges: numbers.edges,
+            },
+        })
+    }
+
+    fn work(&self) -> Vec<u16> {
+        vec![0; work_length(self.members, self.links)]
+    }
+
+    fn tables(&self) -> (Vec<u8>, Vec<u8>, Vec<u16>) {
+        (vec![0; self.members], vec![0; self.members], self.work())
+    }
+
+    fn group(&self, members: &[usize]) -> Result<Vec<u8>, Refusal> {
+        let mut group = vec![0; self.members];
+        for &member in members {
+            *group.get_mut(member).ok_or(Refusal::Member)? = 1;
+        }
+        Ok(group)
+    }
+}
+
+/// A number of the file. What 16 bits do not hold becomes the largest number, which the check refuses as it would the number itself.
+fn number(value: usize) -> [u8; 2] {
+    u16::try_from(value).unwrap_or(u16::MAX).to_le_bytes()
+}
+
+/// A network was accepted when it was made, and its tables are as long as the calls need, so that no call on it alone is refused.
+fn accepted(refusal: u16) {
+    assert_eq!(refusal, 0, "an accepted network was refused");
+}
+
+fn level_of(numbers: lent::LevelNumbers) -> Result<usize, Refusal> {
+    Refusal::of(numbers.refusal, numbers.link)?;
+    Ok(numbers.level)
+}
+
+fn members_of(group: &[u8]) -> Vec<usize> {
+    (0..group.len())
+        .filter(|&member| group[member] == 1)
+        .collect()
+}
