@@ -120,16 +120,7 @@ pub fn check(file: &[u8]) -> CheckNumbers {
 
 /// `E(S,T)`, `|S|` and `|T|` of two groups.
 pub fn count(file: &[u8], s: &[u8], t: &[u8]) -> TotalsNumbers {
-    unsafe {
-        cogsplice_count(
-            file.as_ptr(),
-            file.len(),
-            s.as_ptr(),
-            s.len(),
-            t.as_ptr(),
-            t.len(),
-        )
-    }
+    unsafe { cogsplice_count(file.as_ptr(), file.len(), s.as_ptr(), s.len(), t.as_ptr(), t.len()) }
 }
 
 /// Writes the file with its links ascending by voucher, then vouched.

@@ -65,14 +65,7 @@ impl Index {
     /// # }
     /// ```
     pub fn row(&self, side: Side, member: usize) -> Result<&[u16], Refusal> {
-        let part = lent::row(
-            side,
-            member,
-            &self.out_starts,
-            &self.out_rows,
-            &self.in_starts,
-            &self.in_rows,
-        );
+        let part = lent::row(side, member, &self.out_starts, &self.out_rows, &self.in_starts, &self.in_rows);
         Refusal::of(part.refusal, 0)?;
         let rows = match side {
             Side::Voucher => &self.out_rows,
@@ -308,7 +301,5 @@ fn level_of(numbers: lent::LevelNumbers) -> Result<usize, Refusal> {
 }
 
 fn members_of(group: &[u8]) -> Vec<usize> {
-    (0..group.len())
-        .filter(|&member| group[member] == 1)
-        .collect()
+    (0..group.len()).filter(|&member| group[member] == 1).collect()
 }

@@ -1,0 +1,182 @@
+//! The library's calls in plain Rust, written for speed: the same answers, refusals and lent tables. What they sort and peel in is
+//! kept from call to call, so that no call allocates once the largest network was seen.
+mod network;
+mod peel;
+
+use network::{fill_starts, next_place, source, target, Network, Sorter, HEADER_LENGTH};
+use peel::{Need, Peel, Rise};
+
+/// A refusal's number, and the link's number for the refusals that name one.
+#[derive(Clone, Copy)]
+pub struct Refusal {
+    pub number: u16,
+    pub link: usize,
+}
+
+impl Refusal {
+    fn of(number: u16) -> Self {
+        Self::at(number, 0)
+    }
+
+    fn at(number: u16, link: usize) -> Self {
+        Self { number, link }
+    }
+
+    /// Refusal 9 unless each table, a length and the length needed, is long enough.
+    fn of_tables(tables: &[(usize, usize)]) -> Result<(), Self> {
+        if tables.iter().any(|&(length, needed)| length < needed) {
+            return Err(Self::of(9));
+        }
+        Ok(())
+    }
+}
+
+/// The four tables of an index.
+pub struct Index<'a> {
+    pub out_starts: &'a mut [u16],
+    pub out_rows: &'a mut [u16],
+    pub in_starts: &'a mut [u16],
+    pub in_rows: &'a mut [u16],
+}
+
+/// What the calls keep from one to the next.
+#[derive(Default)]
+pub struct Plain {
+    sorter: Sorter,
+    peel: Peel,
+    ends: Vec<u16>,
+}
+
+impl Plain {
+    /// n and m.
+    pub fn check(&mut self, file: &[u8]) -> Result<[usize; 2], Refusal> {
+        let network = self.sorter.accept(file)?;
+        Ok([network.n, network.links.len()])
+    }
+
+    /// E(S,T), |S| and |T|.
+    pub fn count(&mut self, file: &[u8], s: &[u8], t: &[u8]) -> Result<[usize; 3], Refusal> {
+        let Network { n, links, .. } = self.sorter.accept(file)?;
+        Refusal::of_tables(&[(s.len(), n), (t.len(), n)])?;
+        let (s, t) = (&s[..n], &t[..n]);
+        if s.iter().chain(t).any(|&byte| byte > 1) {
+            return Err(Refusal::of(11));
+        }
+        let between = |link| usize::from(s[source(link)] & t[target(link)]);
+        let edges = links.iter().map(|&link| between(link)).sum();
+        Ok([edges, size_of(s), size_of(t)])
+    }
+
+    /// Writes the file with its links in order and returns m.
+    pub fn write(&mut self, file: &[u8], out: &mut [u8]) -> Result<[usize; 1], Refusal> {
+        let network = self.sorter.accept(file)?;
+        Refusal::of_tables(&[(out.len(), file.len())])?;
+        let (header, links) = out[..file.len()].split_at_mut(HEADER_LENGTH);
+        header.copy_from_slice(&file[..HEADER_LENGTH]);
+        self.sorter
+            .lay_out(network, |link| link, links.as_chunks_mut().0);
+        Ok([network.links.len()])
+    }
+
+    /// Fills the four tables.
+    pub fn index(&mut self, file: &[u8], index: Index) -> Result<[usize; 0], Refusal> {
+        let network = self.sorter.accept(file)?;
+        let (n, m) = (network.n, network.links.len());
+        Refusal::of_tables(&[
+            (index.out_starts.len(), n + 1),
+            (index.out_rows.len(), m),
+            (index.in_starts.len(), n + 1),
+            (index.in_rows.len(), m),
+        ])?;
+        let vouched = |link| target(link) as u16;
+        self.sorter.lay_out(network, vouched, index.out_rows);
+        let links = network.links.iter();
+        let sources = links.clone().map(|&link| source(link));
+        fill_starts(sources, &mut index.out_starts[..=n]);
+        let targets = links.map(|&link| target(link));
+        fill_starts(targets, &mut index.in_starts[..=n]);
+        self.ends.clear();
+        self.ends.extend_from_slice(&index.in_starts[..n]);
+        turn_over(index, &mut self.ends);
+        Ok([])
+    }
+
+    /// Writes the [x,y]-core and returns E, |S| and |T|.
+    pub fn core(
+        &mut self,
+        file: &[u8],
+        [x, y]: [u16; 2],
+        s: &mut [u8],
+        t: &mut [u8],
+    ) -> Result<[usize; 3], Refusal> {
+        let network = self.sorter.accept(file)?;
+        Refusal::of_tables(&[(s.len(), network.n), (t.len(), network.n)])?;
+        self.peel.load(network);
+        Ok(self.peel.core(Need { x, y }, s, t))
+    }
+
+    /// Writes the finding and returns x, y, the equal level, E, |S| and |T|.
+    pub fn finding(
+        &mut self,
+        file: &[u8],
+        s: &mut [u8],
+        t: &mut [u8],
+    ) -> Result<[usize; 6], Refusal> {
+        let network = self.sorter.accept(file)?;
+        Refusal::of_tables(&[(s.len(), network.n), (t.len(), network.n)])?;
+        if network.links.is_empty() {
+            return Err(Refusal::of(13));
+        }
+        self.peel.load(network);
+        let equal = self.peel.climb(Rise::Both, 0, 1);
+        let best = search(&mut self.peel, equal);
+        let [edges, sources, targets] = self.peel.core(best, s, t);
+        let [x, y, equal] = [best.x, best.y, equal].map(usize::from);
+        Ok([x, y, equal, edges, sources, targets])
+    }
+}
+
+/// Fills the in-rows from the out-rows. Those come by voucher, so that each row is filled by voucher and nothing is sorted again.
+fn turn_over(index: Index, ends: &mut [u16]) {
+    for (voucher, row) in index.out_starts.windows(2).take(ends.len()).enumerate() {
+        for &vouched in &index.out_rows[usize::from(row[0])..usize::from(row[1])] {
+            index.in_rows[next_place(ends, usize::from(vouched))] = voucher as u16;
+        }
+    }
+}
+
+fn size_of(group: &[u8]) -> usize {
+    group.iter().map(|&byte| usize::from(byte)).sum()
+}
+
+/// The best [x,y]: each x up to the equal level with its greatest y, then each y with its greatest x.
+fn search(peel: &mut Peel, equal: u16) -> Need {
+    let mut best = Need { x: equal, y: equal };
+    for x in 1..=equal {
+        let first = first_better(best, x, |_| x);
+        let y = peel.climb(Rise::Y, x, first);
+        if first <= y {
+            best = Need { x, y };
+        }
+    }
+    for y in 1..=equal {
+        let first = first_better(best, y, |x| x);
+        let x = peel.climb(Rise::X, y, first);
+        if first <= x {
+            best = Need { x, y };
+        }
+    }
+    best
+}
+
+/// The least number that, beside the fixed one, gives a greater product than the best, or an equal one with a smaller x.
+fn first_better(best: Need, fixed: u16, x_at: impl Fn(u16) -> u16) -> u16 {
+    let product = u32::from(best.x) * u32::from(best.y);
+    let quotient = (product / u32::from(fixed)) as u16;
+    let ties = product % u32::from(fixed) == 0;
+    if ties && x_at(quotient) < best.x {
+        quotient
+    } else {
+        quotient + 1
+    }
+}

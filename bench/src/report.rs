@@ -1,0 +1,177 @@
+//! The text of the measurements.
+use crate::measure::{Measured, ROUND, ROUNDS};
+use crate::sides::Call;
+use std::fmt::Write;
+use std::process::Command;
+use std::time::{SystemTime, UNIX_EPOCH};
+
+/// A ratio that a call is to keep on every network.
+struct Goal {
+    call: Call,
+    most: f64,
+}
+
+const GOALS: [Goal; 4] = [
+    Goal {
+        call: Call::Finding,
+        most: 1.2,
+    },
+    Goal {
+        call: Call::Check,
+        most: 2.0,
+    },
+    Goal {
+        call: Call::Index,
+        most: 2.0,
+    },
+    Goal {
+        call: Call::Write,
+        most: 2.0,
+    },
+];
+
+/// Whatever is measured, for the screen and for docs/BENCHMARKS.md.
+pub fn report(shapes: &[Measured], growth: &[Measured]) -> String {
+    let [how, goals, times, growing] = [
+        how_measured(),
+        goal_table(shapes, growth),
+        time_table(shapes),
+        growth_tables(growth),
+    ];
+    format!(
+        "# Benchmarks\n\n{how}\n## Goals\n\n{goals}\n## Times\n\n{times}\n## Growth\n\n{growing}"
+    )
+}
+
+fn how_measured() -> String {
+    let (today, machine, compiler) = (today(), machine(), compiler());
+    let round = ROUND.as_millis();
+    format!(
+        "The proved library against the same calls in plain Rust (`bench/src/plain.rs`), in one run of
+`cargo run --release --manifest-path bench/Cargo.toml`, which writes this page.
+
+- Date: {today} (UTC)
+- Machine: {machine}
+- Compiler of the plain Rust: {compiler}, opt-level 3
+
+Before the calls on a network are timed, both sides must give the same answers, the same tables, and the same refusals of damaged files.
+Then each call is timed, the two sides turn by turn, in {ROUNDS} rounds of at least {round} ms for each side. The least time of one
+call counts, in microseconds. The ratio is the library's time divided by that of plain Rust.
+
+Both sides check the file in every call, run in one thread, and write to tables that are lent to them. Nothing clears these tables
+between calls. What plain Rust sorts and peels in is kept from call to call, so that no allocation is timed. It sorts the links at
+most once in a call, and ends a peel as soon as a side is empty.
+Unless a file is called ascending, its links stand in random order.
+"
+    )
+}
+
+fn goal_table(shapes: &[Measured], growth: &[Measured]) -> String {
+    let head =
+        "| Call | Goal | Greatest ratio | On | Networks above | Met |\n|---|---|---|---|---|---|\n";
+    let mut text = head.to_string();
+    for Goal { call, most } in GOALS {
+        let measured = shapes.iter().chain(growth);
+        let mut ratios: Vec<_> = measured.map(|one| (one.of(call).ratio(), one)).collect();
+        ratios.sort_by(|a, b| b.0.total_cmp(&a.0));
+        let (greatest, on) = (ratios[0].0, &ratios[0].1.input.name);
+        let above = ratios.iter().filter(|(ratio, _)| *ratio > most).count();
+        let (call, all) = (call.name(), ratios.len());
+        let met = if above == 0 { "yes" } else { "no" };
+        add(
+            &mut text,
+            &format!(
+                "| {call} | at most {most} | {greatest:.2} | {on} | {above} of {all} | {met} |"
+            ),
+        );
+    }
+    text
+}
+
+fn time_table(measured: &[Measured]) -> String {
+    let head = "| Network | n | m | Call | Library (µs) | Plain Rust (µs) | Ratio |\n|---|---|---|---|---|---|---|\n";
+    let mut text = head.to_string();
+    for Measured { input, times } in measured {
+        for times in times {
+            let (name, n, m) = (&input.name, input.n, input.m);
+            let (call, ratio) = (times.call.name(), times.ratio());
+            let (library, plain) = (times.library, times.plain);
+            add(
+                &mut text,
+                &format!(
+                    "| {name} | {n} | {m} | {call} | {library:.1} | {plain:.1} | {ratio:.2} |"
+                ),
+            );
+        }
+    }
+    text
+}
+
+/// One table for each call: random networks with four links for each member, doubled from row to row.
+fn growth_tables(growth: &[Measured]) -> String {
+    let mut text = "Random networks with n = m / 4. The step is the library's time divided by that for half as many links.\n".to_string();
+    for call in Call::ALL {
+        let title = format!("\n### {}\n", call.name());
+        add(&mut text, &title);
+        let head = "| m | Library (µs) | Step | Plain Rust (µs) | Ratio |\n|---|---|---|---|---|";
+        add(&mut text, head);
+        let mut before = None;
+        for measured in growth {
+            let (times, m) = (measured.of(call), measured.input.m);
+            let (library, plain, ratio) = (times.library, times.plain, times.ratio());
+            let step = before.map_or(String::new(), |half: f64| format!("{:.2}", library / half));
+            let line = format!("| {m} | {library:.1} | {step} | {plain:.1} | {ratio:.2} |");
+            add(&mut text, &line);
+            before = Some(library);
+        }
+    }
+    text
+}
+
+fn add(text: &mut String, line: &str) {
+    writeln!(text, "{line}").expect("a string takes every line");
+}
+
+/// The kind of machine: architecture, processor and number of cores.
+fn machine() -> String {
+    let kinds = std::fs::read_to_string("/proc/cpuinfo").unwrap_or_default();
+    let name = kinds
+        .lines()
+        .filter_map(|line| line.strip_prefix("model name"))
+        .find_map(|rest| rest.split_once(':'))
+        .map_or("unknown processor", |(_, name)| name.trim());
+    let cores = std::thread::available_parallelism().map_or(1, usize::from);
+    format!("{}, {name}, {cores} cores", std::env::consts::ARCH)
+}
+
+fn compiler() -> String {
+    let told = Command::new("rustc").arg("--version").output();
+    let version = told.map(|told| String::from_utf8_lossy(&told.stdout).trim().to_string());
+    version.unwrap_or("rustc".to_string())
+}
+
+fn today() -> String {
+    let passed = SystemTime::now().duration_since(UNIX_EPOCH);
+    let days = passed.map_or(0, |passed| passed.as_secs() / 86_400);
+    let (year, month, day) = date_of(days);
+    format!("{year}-{month:02}-{day:02}")
+}
+
+/// The date so many days after 1 January 1970.
+fn date_of(mut days: u64) -> (u64, usize, u64) {
+    let of = |year: u64, years| year.is_multiple_of(years);
+    let leap = |year| of(year, 4) && (!of(year, 100) || of(year, 400));
+    let mut year = 1970;
+    while days >= 365 + u64::from(leap(year)) {
+        days -= 365 + u64::from(leap(year));
+        year += 1;
+    }
+    let february = 28 + u64::from(leap(year));
+    let lengths = [31, february, 31, 30, 31, 30, 31, 31, 30, 31, 30, 31];
+    let mut month = 0;
+    while days >= lengths[month] {
+        days -= lengths[month];
+        month += 1;
+    }
+    (year, month + 1, days + 1)
+}

@@ -1,0 +1,203 @@
+//! The two sides that are measured, called alike.
+use crate::networks::Input;
+use crate::plain::{Index, Plain, Refusal};
+use cogsplice::lent;
+
+/// The x and y of the core that is measured.
+const CORE: [u16; 2] = [2, 2];
+
+#[derive(Clone, Copy, PartialEq, Eq)]
+pub enum Call {
+    Finding,
+    Core,
+    Check,
+    Index,
+    Write,
+    Count,
+}
+
+impl Call {
+    pub const ALL: [Call; 6] = [
+        Call::Finding,
+        Call::Core,
+        Call::Check,
+        Call::Index,
+        Call::Write,
+        Call::Count,
+    ];
+
+    pub fn name(self) -> &'static str {
+        match self {
+            Call::Finding => "finding",
+            Call::Core => "core [2,2]",
+            Call::Check => "check",
+            Call::Index => "index",
+            Call::Write => "write",
+            Call::Count => "count",
+        }
+    }
+}
+
+/// The refusal, the link, then the numbers of the call, and zeros.
+pub type Numbers = [usize; 8];
+
+/// The tables that a side is lent, long enough for one network. Nothing clears them between calls.
+#[derive(Clone, PartialEq, Eq)]
+pub struct Tables {
+    s: Vec<u8>,
+    t: Vec<u8>,
+    out: Vec<u8>,
+    out_starts: Vec<u16>,
+    out_rows: Vec<u16>,
+    in_starts: Vec<u16>,
+    in_rows: Vec<u16>,
+}
+
+impl Tables {
+    /// Tables full of one number, so that an entry that only one side writes is noticed.
+    fn new(input: &Input, full: u8) -> Self {
+        let wide = |length| vec![u16::from(full); length];
+        Self {
+            s: vec![full; input.n],
+            t: vec![full; input.n],
+            out: vec![full; input.file.len()],
+            out_starts: wide(input.n + 1),
+            out_rows: wide(input.m),
+            in_starts: wide(input.n + 1),
+            in_rows: wide(input.m),
+        }
+    }
+}
+
+pub trait Side {
+    fn new(input: &Input) -> Self;
+    fn call(&mut self, call: Call, file: &[u8], input: &Input) -> Numbers;
+    fn tables(&self) -> &Tables;
+}
+
+/// The proved library, with the work table that it is lent.
+pub struct Library {
+    tables: Tables,
+    work: Vec<u16>,
+}
+
+impl Side for Library {
+    fn new(input: &Input) -> Self {
+        Self {
+            tables: Tables::new(input, 2),
+            work: vec![0; 2 * input.m + 6 * input.n + 2],
+        }
+    }
+
+    fn call(&mut self, call: Call, file: &[u8], input: &Input) -> Numbers {
+        let Tables { s, t, out, .. } = &mut self.tables;
+        match call {
+            Call::Finding => finding_numbers(lent::finding(file, s, t, &mut self.work)),
+            Call::Core => {
+                let [x, y] = CORE;
+                totals_numbers(lent::core(file, x, y, s, t, &mut self.work))
+            }
+            Call::Check => {
+                let told = lent::check(file);
+                numbers(told.refusal, told.link, [told.n, told.m])
+            }
+            Call::Index => self.index(file),
+            Call::Write => {
+                let told = lent::write(file, out);
+                numbers(told.refusal, told.link, [told.m])
+            }
+            Call::Count => totals_numbers(lent::count(file, &input.s, &input.t)),
+        }
+    }
+
+    fn tables(&self) -> &Tables {
+        &self.tables
+    }
+}
+
+impl Library {
+    fn index(&mut self, file: &[u8]) -> Numbers {
+        let tables = &mut self.tables;
+        let told = lent::index(
+            file,
+            &mut tables.out_starts,
+            &mut tables.out_rows,
+            &mut tables.in_starts,
+            &mut tables.in_rows,
+        );
+        numbers(told.refusal, told.link, [])
+    }
+}
+
+fn numbers<const K: usize>(refusal: u16, link: u16, values: [usize; K]) -> Numbers {
+    let mut numbers = [0; 8];
+    numbers[0] = refusal.into();
+    numbers[1] = link.into();
+    numbers[2..2 + K].copy_from_slice(&values);
+    numbers
+}
+
+fn totals_numbers(told: lent::TotalsNumbers) -> Numbers {
+    let values = [told.edges as usize, told.sources, told.targets];
+    numbers(told.refusal, told.link, values)
+}
+
+fn finding_numbers(told: lent::FindingNumbers) -> Numbers {
+    let edges = told.edges as usize;
+    let values = [
+        told.x,
+        told.y,
+        told.equal,
+        edges,
+        told.sources,
+        told.targets,
+    ];
+    numbers(told.refusal, told.link, values)
+}
+
+/// The same calls in plain Rust, with what they keep from call to call.
+pub struct PlainRust {
+    tables: Tables,
+    plain: Plain,
+}
+
+impl Side for PlainRust {
+    fn new(input: &Input) -> Self {
+        Self {
+            tables: Tables::new(input, 3),
+            plain: Plain::default(),
+        }
+    }
+
+    fn call(&mut self, call: Call, file: &[u8], input: &Input) -> Numbers {
+        let Self { tables, plain } = self;
+        match call {
+            Call::Finding => told(plain.finding(file, &mut tables.s, &mut tables.t)),
+            Call::Core => told(plain.core(file, CORE, &mut tables.s, &mut tables.t)),
+            Call::Check => told(plain.check(file)),
+            Call::Index => told(plain.index(file, index_of(tables))),
+            Call::Write => told(plain.write(file, &mut tables.out)),
+            Call::Count => told(plain.count(file, &input.s, &input.t)),
+        }
+    }
+
+    fn tables(&self) -> &Tables {
+        &self.tables
+    }
+}
+
+fn index_of(tables: &mut Tables) -> Index<'_> {
+    Index {
+        out_starts: &mut tables.out_starts,
+        out_rows: &mut tables.out_rows,
+        in_starts: &mut tables.in_starts,
+        in_rows: &mut tables.in_rows,
+    }
+}
+
+fn told<const K: usize>(answer: Result<[usize; K], Refusal>) -> Numbers {
+    match answer {
+        Ok(values) => numbers(0, 0, values),
+        Err(refusal) => numbers(refusal.number, refusal.link as u16, []),
+    }
+}
