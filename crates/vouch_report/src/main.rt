@@ -4,22 +4,28 @@ use cogsplice::Refusal;
 use cogsplice::Ring;
 use libc::STDIN_FILENO;
 use libc::STDOUT_FILENO;
+use network::u16_at;
 use report::Numbers;
+ghost use Prim.Native.Nat.{_≤_};
+ghost use mathlib.Core.Path.{_≡_};
+ghost use lib.ListN.{length};
+ghost use Rattle.report.specs.Put.{Begins};
+ghost use Rattle.report.specs.Text.{refusalText, longestReport};
+ghost use Rattle.vouch_report.specs.Printed.{refusalOf, numbersOf, Laid};
 
-fn print_refusal(refusal: Refusal) {
-    let mut out = [0u8; 23];
-    let length = report::put_refusal(refusal, &mut out);
-    io::write_all(STDOUT_FILENO, &out[..length]);
-}
-
-fn print_refused(answer: FindingAnswer) {
+// The refusal of a finding that is refused.
+fn refusal_of(answer: FindingAnswer) -> Refusal
+    ensures { λ r. ⌜ r ≡ refusalOf answer ⌝ }
+{
     match answer {
-        FindingAnswer::Refused(refusal) => print_refusal(refusal),
-        FindingAnswer::Found(_) => {}
+        FindingAnswer::Refused(refusal) => refusal,
+        FindingAnswer::Found(_) => Refusal { number: 0, link: 0 },
     }
 }
 
-fn numbers_of(ring: Ring) -> Numbers {
+fn numbers_of(ring: Ring) -> Numbers
+    ensures { λ r. ⌜ r ≡ numbersOf ring ⌝ }
+{
     Numbers {
         x: ring.x,
         y: ring.y,
@@ -30,23 +36,25 @@ fn numbers_of(ring: Ring) -> Numbers {
     }
 }
 
-// The tables were all 0 before the finding wrote its n bytes, so nobody from n on is in a group.
-fn print_report(ring: Ring, s: &[u8; 2048], t: &[u8; 2048]) {
-    let mut out = [0u8; 20643];
-    let length = report::put_report(numbers_of(ring), s, t, 2048, &mut out);
-    io::write_all(STDOUT_FILENO, &out[..length]);
+// Lays what is to be printed for a file at the start of the buffer, and answers its length.
+fn lay(file: &[u8], out: &mut [u8]) -> usize
+    requires { ⌜ longestReport ≤ length (now out) ⌝ }
+    ensures { λ r. ⌜ Laid (now (file .entry)) (now (out .entry)) (now (out .exit)) r ⌝ }
+{
+    let mut work = [0u16; 28674];
+    let mut s = [0u8; 2048];
+    let mut t = [0u8; 2048];
+    let answer = cogsplice::finding(file, &mut s, &mut t, &mut work);
+    let FindingAnswer::Found(ring) = answer else {
+        return report::put_refusal(refusal_of(answer), out);
+    };
+    report::put_report(numbers_of(ring), &s, &t, u16_at(file, 5), out)
 }
 
 fn main() {
     let mut input = [0u8; 32778];
-    let mut work = [0u16; 28674];
-    let mut s = [0u8; 2048];
-    let mut t = [0u8; 2048];
+    let mut out = [0u8; 20643];
     let length = io::read_full(STDIN_FILENO, &mut input);
-    let answer = cogsplice::finding(&input[..length], &mut s, &mut t, &mut work);
-    let FindingAnswer::Found(ring) = answer else {
-        print_refused(answer);
-        return;
-    };
-    print_report(ring, &s, &t);
+    let printed = lay(&input[..length], &mut out);
+    io::write_all(STDOUT_FILENO, &out[..printed]);
 }
