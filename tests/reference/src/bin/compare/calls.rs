@@ -1,0 +1,272 @@
+//! Each call on a case's file, by the reference and by the library, with tables of many lengths.
+use crate::case::Case;
+use crate::draw::Draw;
+use crate::indexes::try_indexes;
+use crate::table::{lengths_to_try, Table};
+use cogsplice::lent;
+use reference::{file_length, work_length, Network};
+use std::fmt::Debug;
+
+/// Every call on the case's file, accepted or not.
+pub fn try_all(case: &mut Case) {
+    let before = case.file.clone();
+    try_check(case);
+    try_counts(case);
+    try_writes(case);
+    try_indexes(case);
+    for (x, y) in pairs_to_try(case) {
+        try_core(case, x, y);
+    }
+    for asked in levels_to_try(case) {
+        try_levels(case, asked);
+    }
+    try_equal_level(case);
+    try_finding(case);
+    try_equal_findings(case);
+    let after = case.file.clone();
+    case.compare(|| "the file stays as it was".into(), before, after);
+}
+
+/// The most links that one member has as a voucher and as a vouched member.
+fn most_links(network: &Network) -> [usize; 2] {
+    let mut counts = vec![[0; 2]; network.n];
+    for &(a, b) in &network.links {
+        counts[a][0] += 1;
+        counts[b][1] += 1;
+    }
+    [0, 1].map(|side| counts.iter().map(|count| count[side]).max().unwrap_or(0))
+}
+
+/// Values of x and y for cores: the ends of the range, some at random, and those around the finding.
+fn pairs_to_try(case: &mut Case) -> Vec<(u16, u16)> {
+    let top = u16::MAX;
+    let mut pairs = vec![(0, 0), (0, 1), (1, 0), (1, 1)];
+    pairs.extend([(0, top), (top, 0), (1, top), (top, top)]);
+    let Ok(network) = reference::read(&case.file) else {
+        return pairs;
+    };
+    let most = most_links(&network);
+    for _ in 0..6 {
+        let [x, y] = most.map(|most| {
+            let high = case.draw.pick(&[most + 1, most.isqrt() + 1]);
+            case.draw.among(0, high) as u16
+        });
+        pairs.push((x, y));
+    }
+    let (n, m) = (network.n, network.links.len());
+    let (mut s, mut t, mut work) = (vec![0; n], vec![0; n], vec![0; work_length(n, m)]);
+    let found = lent::finding(&case.file, &mut s, &mut t, &mut work);
+    let (x, y) = (found.x as u16, found.y as u16);
+    pairs.extend([(x, y), (x + 1, y), (x, y + 1), (x, 0), (0, y)]);
+    pairs
+}
+
+/// Values to ask levels for: all up to n + 1 where that is little, else some.
+fn levels_to_try(case: &mut Case) -> Vec<u16> {
+    let n = case.claimed().0;
+    let mut levels: Vec<usize> = (0..=(n + 1).min(10)).collect();
+    if let (Ok(network), true) = (reference::read(&case.file), n > 9) {
+        for most in most_links(&network) {
+            levels.extend([case.draw.among(1, most + 1), most, most + 1]);
+        }
+    }
+    levels.push(65_535);
+    levels.into_iter().map(|level| level as u16).collect()
+}
+
+pub fn try_check(case: &mut Case) {
+    let expected = reference::check(&case.file);
+    let given = lent::check(&case.file);
+    case.seen(expected.refusal);
+    case.compare(|| "check".into(), expected, given);
+}
+
+/// A table for a group of n members: bytes past them are random; a faulty one has a byte that is neither 0 nor 1.
+fn group(draw: &mut Draw, length: usize, n: usize, faulty: bool) -> Vec<u8> {
+    let mut table = draw.bytes(length);
+    let one_in = draw.among(1, 3);
+    let used = length.min(n);
+    for byte in &mut table[..used] {
+        *byte = draw.one_in(one_in) as u8;
+    }
+    if faulty && used > 0 {
+        let random = draw.among(2, 255) as u8;
+        table[draw.below(used)] = draw.pick(&[2, 3, 128, 255, random]);
+    }
+    table
+}
+
+fn try_counts(case: &mut Case) {
+    let n = case.claimed().0;
+    for (faulty_s, faulty_t) in [(false, false), (false, false), (true, false), (false, true)] {
+        for lengths in lengths_to_try(&mut case.draw, [n, n]) {
+            let s = group(&mut case.draw, lengths[0], n, faulty_s);
+            let t = group(&mut case.draw, lengths[1], n, faulty_t);
+            let expected = reference::count(&case.file, &s, &t);
+            let given = lent::count(&case.file, &s, &t);
+            case.seen(expected.refusal);
+            case.compare(|| format!("count {s:?} {t:?}"), expected, given);
+        }
+    }
+}
+
+fn try_writes(case: &mut Case) {
+    let m = case.claimed().1;
+    for [length] in lengths_to_try(&mut case.draw, [file_length(m)]) {
+        let mut out = Table::bytes(&mut case.draw, length);
+        let mut library_out = out.clone();
+        let expected = reference::write(&case.file, out.lend());
+        let given = lent::write(&case.file, library_out.lend());
+        case.seen(expected.refusal);
+        case.compare(
+            || format!("write, length {length}"),
+            (expected, out),
+            (given, library_out),
+        );
+    }
+    if let Ok(network) = reference::read(&case.file) {
+        try_write_again(case, network);
+    }
+}
+
+/// A written file is accepted, holds the same links, and is written again as the same bytes.
+fn try_write_again(case: &mut Case, mut network: Network) {
+    let mut first = vec![0; case.file.len()];
+    lent::write(&case.file, &mut first);
+    let mut again = vec![0; first.len()];
+    let answer = lent::write(&first, &mut again);
+    let numbers = (answer.refusal, answer.m);
+    case.compare(
+        || "write again: m".into(),
+        (0, network.links.len()),
+        numbers,
+    );
+    case.compare(|| "write again: bytes".into(), &first, &again);
+    network.links.sort();
+    let written = reference::read(&first);
+    case.compare(|| "write again: links".into(), Ok(network), written);
+}
+
+fn try_core(case: &mut Case, x: u16, y: u16) {
+    try_groups(
+        case,
+        &format!("core {x} {y}"),
+        |file, s, t, work| reference::core(file, x, y, s, t, work),
+        |file, s, t, work| lent::core(file, x, y, s, t, work),
+        |answer| answer.refusal,
+    );
+}
+
+fn try_finding(case: &mut Case) {
+    try_groups(
+        case,
+        "finding",
+        reference::finding,
+        lent::finding,
+        |answer| answer.refusal,
+    );
+}
+
+/// How many entries of the work table are free: those that the call needs where it was accepted, else none.
+fn free_work(case: &Case, refusal: u16) -> usize {
+    let (n, m) = case.claimed();
+    match refusal {
+        0 => work_length(n, m),
+        _ => 0,
+    }
+}
+
+/// A call that writes two groups and is lent a work table.
+fn try_groups<A: PartialEq + Debug>(
+    case: &mut Case,
+    call: &str,
+    reference: impl Fn(&[u8], &mut [u8], &mut [u8], usize) -> A,
+    library: impl Fn(&[u8], &mut [u8], &mut [u8], &mut [u16]) -> A,
+    refusal: impl Fn(&A) -> u16,
+) {
+    let (n, m) = case.claimed();
+    for lengths in lengths_to_try(&mut case.draw, [n, n, work_length(n, m)]) {
+        let mut s = Table::bytes(&mut case.draw, lengths[0]);
+        let mut t = Table::bytes(&mut case.draw, lengths[1]);
+        let mut work = Table::words(&mut case.draw, lengths[2]);
+        let (mut library_s, mut library_t) = (s.clone(), t.clone());
+        let mut library_work = work.clone();
+        let expected = reference(&case.file, s.lend(), t.lend(), lengths[2]);
+        let (lent_s, lent_t) = (library_s.lend(), library_t.lend());
+        let given = library(&case.file, lent_s, lent_t, library_work.lend());
+        let free = free_work(case, refusal(&expected));
+        work.clear(free);
+        library_work.clear(free);
+        case.seen(refusal(&expected));
+        case.compare(
+            || format!("{call}, lengths {lengths:?}"),
+            (expected, s, t, work),
+            (given, library_s, library_t, library_work),
+        );
+    }
+}
+
+/// The level and the level across for one number.
+fn try_levels(case: &mut Case, asked: u16) {
+    try_level(
+        case,
+        &format!("level {asked}"),
+        |file, work| reference::level(file, asked, work),
+        |file, work| lent::level(file, asked, work),
+    );
+    try_level(
+        case,
+        &format!("level_across {asked}"),
+        |file, work| reference::level_across(file, asked, work),
+        |file, work| lent::level_across(file, asked, work),
+    );
+}
+
+fn try_equal_level(case: &mut Case) {
+    try_level(
+        case,
+        "equal_level",
+        reference::equal_level,
+        lent::equal_level,
+    );
+}
+
+/// A level of any kind.
+fn try_level(
+    case: &mut Case,
+    call: &str,
+    reference: impl Fn(&[u8], usize) -> lent::LevelNumbers,
+    library: impl Fn(&[u8], &mut [u16]) -> lent::LevelNumbers,
+) {
+    let (n, m) = case.claimed();
+    for [length] in lengths_to_try(&mut case.draw, [work_length(n, m)]) {
+        let mut work = Table::words(&mut case.draw, length);
+        let mut library_work = work.clone();
+        let expected = reference(&case.file, length);
+        let given = library(&case.file, library_work.lend());
+        let free = free_work(case, expected.refusal);
+        work.clear(free);
+        library_work.clear(free);
+        case.seen(expected.refusal);
+        case.compare(
+            || format!("{call}, work {length}"),
+            (expected, work),
+            (given, library_work),
+        );
+    }
+}
+
+fn try_equal_findings(case: &mut Case) {
+    let mut values = [0, 1, 2, 3, 65_535, usize::MAX, case.draw.number() as usize];
+    case.draw.shuffle(&mut values);
+    let [x, y, a, b, ..] = values;
+    for (a, b) in [(x, y), (y, x), (x, b), (a, y), (a, b)] {
+        let expected = reference::equal_findings(x, y, a, b);
+        let given = lent::equal_findings(x, y, a, b);
+        case.compare(
+            || format!("equal_findings {x} {y} {a} {b}"),
+            expected,
+            given,
+        );
+    }
+}

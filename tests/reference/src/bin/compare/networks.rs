@@ -1,0 +1,85 @@
+//! Accepted files of three sizes.
+use crate::calls::try_all;
+use crate::case::Case;
+use crate::kinds::{network, Kind, KINDS};
+use reference::{encode, Network, LINKS, MEMBERS};
+
+/// Makes the case's file: of a kind, with n members and at most m links.
+fn set_file(case: &mut Case, kind: &Kind, n: usize, m: usize) -> Network {
+    let network = network(&mut case.draw, kind, n, m);
+    case.kind = format!("{}, n {}, m {}", kind.name, network.n, network.links.len());
+    case.file = encode(&network);
+    network
+}
+
+/// The kinds by turns.
+fn kind_of(case: &Case) -> &'static Kind {
+    &KINDS[case.turn as usize % KINDS.len()]
+}
+
+pub fn small_file(case: &mut Case) {
+    let n = case.draw.among(0, 9);
+    set_file(case, kind_of(case), n, n * n);
+}
+
+pub fn medium_file(case: &mut Case) {
+    let n = case.draw.among(10, 60);
+    let m = case.draw.among(n, 400);
+    set_file(case, kind_of(case), n, m);
+}
+
+/// The greatest n and m in every second round of the kinds, else somewhat fewer.
+pub fn full_file(case: &mut Case) {
+    let greatest = (case.turn / KINDS.len() as u64).is_multiple_of(2);
+    let (fewest_n, fewest_m) = if greatest {
+        (MEMBERS, LINKS)
+    } else {
+        (1000, 4000)
+    };
+    let n = case.draw.among(fewest_n, MEMBERS);
+    let m = case.draw.among(fewest_m, LINKS);
+    set_file(case, kind_of(case), n, m);
+}
+
+/// A file of 2,048 members and 8,192 links.
+pub fn largest_file(case: &mut Case) {
+    loop {
+        let kind = &KINDS[case.draw.below(KINDS.len())];
+        if set_file(case, kind, MEMBERS, LINKS).links.len() == LINKS {
+            return;
+        }
+    }
+}
+
+/// A network with at least 2 members and 3 links, so that every fault fits in; mostly small, now and then large.
+pub fn roomy_network(case: &mut Case) -> Network {
+    let large = case.draw.one_in(20);
+    loop {
+        let kind = &KINDS[case.draw.below(KINDS.len())];
+        let small = case.draw.among(2, 9);
+        let (n, m) = if large {
+            (MEMBERS, LINKS)
+        } else {
+            (small, small * small)
+        };
+        let network = set_file(case, kind, n, m);
+        if network.links.len() >= 3 {
+            return network;
+        }
+    }
+}
+
+pub fn small(case: &mut Case) {
+    small_file(case);
+    try_all(case);
+}
+
+pub fn medium(case: &mut Case) {
+    medium_file(case);
+    try_all(case);
+}
+
+pub fn full(case: &mut Case) {
+    full_file(case);
+    try_all(case);
+}

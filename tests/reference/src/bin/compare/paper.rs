@@ -1,0 +1,161 @@
+//! The examples and limits that 01 names, by the reference and by the library.
+use crate::calls::try_all;
+use crate::case::Case;
+use cogsplice::lent::{self, FindingNumbers, LevelNumbers, TotalsNumbers};
+use reference::{encode, report, work_length, Link, Network};
+
+const W: [Link; 8] = [
+    (0, 3),
+    (0, 4),
+    (1, 3),
+    (1, 4),
+    (2, 3),
+    (2, 4),
+    (4, 5),
+    (5, 5),
+];
+
+/// What 01 prints for network W.
+const W_REPORT: &str = "x 2 y 3 equal 2\nlinks 6 vouchers 3 vouched 2\nS 0 1 2\nT 3 4\n";
+
+fn set(case: &mut Case, kind: &str, n: usize, links: &[Link]) {
+    case.kind = kind.into();
+    case.file = encode(&Network {
+        n,
+        links: links.to_vec(),
+    });
+}
+
+/// The members of a group.
+fn members(group: &[u8]) -> Vec<usize> {
+    (0..group.len())
+        .filter(|&member| group[member] == 1)
+        .collect()
+}
+
+/// Network W.
+pub fn example_file(case: &mut Case) {
+    set(case, "W", 6, &W);
+}
+
+pub fn paper(case: &mut Case) {
+    example_file(case);
+    expect_core(case, 2, 3, 6, &[0, 1, 2], &[3, 4]);
+    expect_core(case, 1, 2, 8, &[0, 1, 2, 4, 5], &[3, 4, 5]);
+    expect_core(case, 0, 4, 0, &[0, 1, 2, 3, 4, 5], &[]);
+    expect_core(case, 3, 0, 0, &[], &[0, 1, 2, 3, 4, 5]);
+    expect_levels(case);
+    expect_finding(case, [2, 3, 2, 6], &[0, 1, 2], &[3, 4]);
+    let text = report(&case.file);
+    case.compare(|| "report".into(), W_REPORT.to_string(), text);
+    try_all(case);
+    set(case, "P6", 4, &[(0, 1), (0, 2), (0, 3)]);
+    expect_finding(case, [3, 1, 1, 3], &[0], &[1, 2, 3]);
+    set(case, "P7", 6, &[(0, 1), (0, 2), (3, 5), (4, 5)]);
+    expect_finding(case, [1, 2, 1, 2], &[3, 4], &[5]);
+    set(case, "P8", 1, &[(0, 0)]);
+    expect_finding(case, [1, 1, 1, 1], &[0], &[0]);
+    expect_limits(case);
+}
+
+fn expect_core(case: &mut Case, x: u16, y: u16, edges: u32, s: &[usize], t: &[usize]) {
+    let (mut lent_s, mut lent_t) = (vec![0; 6], vec![0; 6]);
+    let mut work = vec![0; work_length(6, 8)];
+    let expected = TotalsNumbers {
+        refusal: 0,
+        link: 0,
+        edges,
+        sources: s.len(),
+        targets: t.len(),
+    };
+    let plain = reference::core(&case.file, x, y, &mut lent_s, &mut lent_t, work.len());
+    let groups = (members(&lent_s), members(&lent_t));
+    let wanted = (expected, (s.to_vec(), t.to_vec()));
+    case.compare(
+        || format!("core {x} {y}: reference"),
+        &wanted,
+        &(plain, groups),
+    );
+    let given = lent::core(&case.file, x, y, &mut lent_s, &mut lent_t, &mut work);
+    let groups = (members(&lent_s), members(&lent_t));
+    case.compare(|| format!("core {x} {y}"), &wanted, &(given, groups));
+}
+
+/// P5.
+fn expect_levels(case: &mut Case) {
+    let mut work = vec![0; work_length(6, 8)];
+    let answer = |level| LevelNumbers {
+        refusal: 0,
+        link: 0,
+        level,
+    };
+    for (x, level) in [(1, 3), (2, 3), (3, 0)] {
+        let plain = reference::level(&case.file, x, work.len());
+        case.compare(|| format!("level {x}: reference"), answer(level), plain);
+        let given = lent::level(&case.file, x, &mut work);
+        case.compare(|| format!("level {x}"), answer(level), given);
+    }
+    let plain = reference::level_across(&case.file, 3, work.len());
+    case.compare(|| "level_across 3: reference".into(), answer(2), plain);
+    let given = lent::level_across(&case.file, 3, &mut work);
+    case.compare(|| "level_across 3".into(), answer(2), given);
+}
+
+/// x, y, the equal level and E; S and T.
+fn expect_finding(case: &mut Case, numbers: [usize; 4], s: &[usize], t: &[usize]) {
+    let [x, y, equal, edges] = numbers;
+    let (sources, targets) = (s.len(), t.len());
+    let edges = edges as u32;
+    let expected = FindingNumbers {
+        refusal: 0,
+        link: 0,
+        edges,
+        x,
+        y,
+        equal,
+        sources,
+        targets,
+    };
+    let wanted = (expected, (s.to_vec(), t.to_vec()));
+    let (n, m) = case.claimed();
+    let (mut lent_s, mut lent_t) = (vec![0; n], vec![0; n]);
+    let mut work = vec![0; work_length(n, m)];
+    let plain = reference::finding(&case.file, &mut lent_s, &mut lent_t, work.len());
+    let groups = (members(&lent_s), members(&lent_t));
+    case.compare(|| "finding: reference".into(), &wanted, &(plain, groups));
+    let given = lent::finding(&case.file, &mut lent_s, &mut lent_t, &mut work);
+    let groups = (members(&lent_s), members(&lent_t));
+    case.compare(|| "finding".into(), &wanted, &(given, groups));
+}
+
+/// P9 and the limits of n, m and a link's members.
+fn expect_limits(case: &mut Case) {
+    let links = |m: usize| -> Vec<Link> { (0..m).map(|i| (i % 2048, i / 2048)).collect() };
+    expect_check(case, (0, 0), 1, &[]);
+    expect_check(case, (0, 0), 0, &[]);
+    expect_check(case, (0, 0), 2048, &links(8192));
+    expect_check(case, (4, 0), 2049, &links(8192));
+    expect_check(case, (5, 0), 2048, &links(8193));
+    expect_check(case, (0, 0), 3, &[(2, 0), (0, 2)]);
+    expect_check(case, (7, 1), 3, &[(2, 0), (0, 3)]);
+    expect_check(case, (7, 0), 0, &[(0, 0)]);
+    expect_check(case, (8, 2), 3, &[(1, 2), (2, 1), (1, 2), (2, 1)]);
+    expect_check(case, (7, 3), 3, &[(1, 2), (1, 2), (0, 0), (3, 0)]);
+    set(case, "P9", 1, &[]);
+    let found = lent::finding(&case.file, &mut [0], &mut [0], &mut [0; 8]).refusal;
+    case.compare(|| "finding without links".into(), 13, found);
+    try_all(case);
+}
+
+/// The refusal and the link's number of a check.
+fn expect_check(case: &mut Case, refusal: (u16, u16), n: usize, links: &[Link]) {
+    set(case, &format!("limits, n {n}, m {}", links.len()), n, links);
+    let plain = reference::check(&case.file);
+    case.compare(
+        || "check: reference".into(),
+        refusal,
+        (plain.refusal, plain.link),
+    );
+    let given = lent::check(&case.file);
+    case.compare(|| "check".into(), refusal, (given.refusal, given.link));
+}

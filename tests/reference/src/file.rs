@@ -1,0 +1,115 @@
+//! The network file: read with refusals 1 to 8, and written.
+use crate::answers::{long_enough, Refusal, Refused};
+use cogsplice::lent::{CheckNumbers, WriteNumbers};
+use std::collections::HashSet;
+
+/// The most members of a network.
+pub const MEMBERS: usize = 2048;
+
+/// The most links of a network.
+pub const LINKS: usize = 8192;
+
+/// A link: voucher, then vouched.
+pub type Link = (usize, usize);
+
+/// A network: the number of its members, and its links in the order of the file.
+#[derive(Clone, Debug, PartialEq, Eq)]
+pub struct Network {
+    pub n: usize,
+    pub links: Vec<Link>,
+}
+
+/// The length of a file with m links.
+pub fn file_length(m: usize) -> usize {
+    9 + 4 * m
+}
+
+/// A number of 16 bits, low byte first.
+fn number_at(file: &[u8], offset: usize) -> usize {
+    file[offset] as usize + 256 * file[offset + 1] as usize
+}
+
+/// The network of an accepted file, or the lowest of the refusals 1 to 8.
+pub fn read(file: &[u8]) -> Result<Network, Refusal> {
+    let (n, m) = read_head(file)?;
+    let links: Vec<Link> = (0..m)
+        .map(|i| (number_at(file, 9 + 4 * i), number_at(file, 11 + 4 * i)))
+        .collect();
+    if let Some(first) = links.iter().position(|&(a, b)| a >= n || b >= n) {
+        return Err(Refusal {
+            number: 7,
+            link: first as u16,
+        });
+    }
+    let mut earlier = HashSet::new();
+    if let Some(first) = links.iter().position(|&link| !earlier.insert(link)) {
+        return Err(Refusal {
+            number: 8,
+            link: first as u16,
+        });
+    }
+    Ok(Network { n, links })
+}
+
+/// n and m, or the lowest of the refusals 1 to 6.
+fn read_head(file: &[u8]) -> Result<(usize, usize), Refusal> {
+    if file.len() < 9 {
+        return Err(Refusal::plain(1));
+    }
+    let (n, m) = (number_at(file, 5), number_at(file, 7));
+    let faults = [
+        (2, file[0..3] != *b"VCH"),
+        (3, number_at(file, 3) != 1),
+        (4, n > MEMBERS),
+        (5, m > LINKS),
+        (6, file.len() != file_length(m)),
+    ];
+    match faults.iter().find(|(_, found)| *found) {
+        Some(&(number, _)) => Err(Refusal::plain(number)),
+        None => Ok((n, m)),
+    }
+}
+
+/// The bytes of a network's file, its links in the given order.
+pub fn encode(network: &Network) -> Vec<u8> {
+    let mut numbers = vec![1, network.n, network.links.len()];
+    numbers.extend(network.links.iter().flat_map(|&(a, b)| [a, b]));
+    let mut file = b"VCH".to_vec();
+    file.extend(
+        numbers
+            .iter()
+            .flat_map(|&number| (number as u16).to_le_bytes()),
+    );
+    file
+}
+
+/// The check: n and m of an accepted file.
+pub fn check(file: &[u8]) -> CheckNumbers {
+    match read(file) {
+        Ok(network) => CheckNumbers {
+            refusal: 0,
+            link: 0,
+            n: network.n,
+            m: network.links.len(),
+        },
+        Err(refusal) => Refused::refused(refusal),
+    }
+}
+
+/// The writer: the accepted file with its links ascending by voucher, then vouched.
+pub fn write(file: &[u8], out: &mut [u8]) -> WriteNumbers {
+    try_write(file, out).unwrap_or_else(Refused::refused)
+}
+
+fn try_write(file: &[u8], out: &mut [u8]) -> Result<WriteNumbers, Refusal> {
+    let mut network = read(file)?;
+    let m = network.links.len();
+    long_enough(&[(out.len(), file_length(m))])?;
+    network.links.sort();
+    out[..file_length(m)].copy_from_slice(&encode(&network));
+    Ok(WriteNumbers {
+        refusal: 0,
+        link: 0,
+        m,
+    })
+}

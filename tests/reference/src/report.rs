@@ -1,0 +1,34 @@
+//! The text of the report program.
+use crate::cores::{finding, work_length};
+use crate::file::{LINKS, MEMBERS};
+
+/// The most bytes that the program reads.
+pub const INPUT: usize = 32_778;
+
+/// What `vouch-report` prints for an input.
+pub fn report(input: &[u8]) -> String {
+    let file = &input[..input.len().min(INPUT)];
+    let (mut s, mut t) = (vec![0; MEMBERS], vec![0; MEMBERS]);
+    let found = finding(file, &mut s, &mut t, work_length(MEMBERS, LINKS));
+    match found.refusal {
+        0 => format!(
+            "x {} y {} equal {}\nlinks {} vouchers {} vouched {}\nS{}\nT{}\n",
+            found.x,
+            found.y,
+            found.equal,
+            found.edges,
+            found.sources,
+            found.targets,
+            members(&s),
+            members(&t)
+        ),
+        7 | 8 => format!("refused {} at {}\n", found.refusal, found.link),
+        number => format!("refused {number}\n"),
+    }
+}
+
+/// The members of a group, ascending, each after a space.
+fn members(group: &[u8]) -> String {
+    let inside = (0..group.len()).filter(|&member| group[member] == 1);
+    inside.map(|member| format!(" {member}")).collect()
+}
