@@ -1,12 +1,13 @@
--- The answer of the core call: the groups by the degrees of a peel that has ended are the core, the peel's counts are their sizes, and the
+-- The answer of the core call: the groups by the degrees of a peel whose queue is drained are the core, the peel's counts are their sizes, and the
 -- degrees of the sources add up to the edges between them.
 use Prim.Native.Nat.{ℕ, _+_, _*_, _<_}
-use mathlib.Core.List.{List, [], _∷_, _++_}
-use mathlib.Core.Path.{_≡_, sym, ap, _∙_}
+use mathlib.Core.Bool.{true}
+use mathlib.Core.List.{List, _++_}
+use mathlib.Core.Path.{_≡_, refl, sym, _∙_}
 use native.Mathlib.Nat.{add-assoc}
 use native.Mathlib.Omega.{arith}
 use lib.Dec.{leb}
-use lib.ListN.{getD, drop}
+use lib.ListN.{drop}
 use Rattle.graph.specs.Range.{sum, if}
 use Rattle.graph.specs.Graph.{Graph, Group, card, edges}
 use Rattle.graph.specs.Core.{Same, Core}
@@ -17,58 +18,57 @@ use Rattle.graph.proofs.Exists.{core-same}
 use Rattle.network.specs.declared.Totals.{Totals}
 use Rattle.network.specs.File.{groupOf}
 use Rattle.network.specs.Tables.{bytesOf}
-use Rattle.network.specs.Counts.{totals}
 use Rattle.peeling.specs.declared.Peel.{Peel}
 use Rattle.peeling.specs.declared.Scope.{Scope}
 use Rattle.peeling.specs.Peeling.{degreeOf, left, Indexed, Tabled, Peeling, Ended}
-use Rattle.peeling.specs.Groups.{atLeast, weightOf, totalsNumbers, CoreIn}
+use Rattle.peeling.specs.Groups.{atLeast, weightOf, CoreIn}
 use Rattle.peeling.proofs.Kept.{tabled-kept}
-use Rattle.peeling.proofs.Finished.{finished-source, finished-target, finished-core, finished-sources, finished-targets, finished-edges}
+use Rattle.peeling.proofs.Finished.{left-source, left-target, finished-core, finished-edges}
 use Rattle.peeling.proofs.Bytes.{written-group, written}
 
 -- what a peel by a scope is for a graph of the scope's numbers of vertices and edges
-pub ended-peeling : {g : Graph} {c : Scope} {w w′ : List ℕ} {p : Peel} → Tabled g (c .order) (c .size) w → Ended c w w′ p
+pub ended-peeling : {g : Graph} {c : Scope} {w w′ : List ℕ} {p : Peel} → Tabled g (c .order) (c .size) w → Ended true c w w′ p
     → Peeling (g .order) (g .size) (need (g .order) (c .x) (c .y)) w′ p
 ended-peeling t e = rw (t .order, t .size) (e .peeling)
 
 -- the peel's table holds the graph still
-pub ended-indexed : {g : Graph} {c : Scope} {w w′ : List ℕ} {p : Peel} → Tabled g (c .order) (c .size) w → Ended c w w′ p → Indexed g w′
+pub ended-indexed : {g : Graph} {c : Scope} {w w′ : List ℕ} {p : Peel} → Tabled g (c .order) (c .size) w → Ended true c w w′ p → Indexed g w′
 ended-indexed t e = tabled-kept t (e .kept) .indexed
 
-module _ {c : Scope} {w w′ : List ℕ} {p : Peel} (e : Ended c w w′ p) {g : Graph} (t : Tabled g (c .order) (c .size) w) {A B : Group}
+module _ {c : Scope} {w w′ : List ℕ} {p : Peel} (e : Ended true c w w′ p) {g : Graph} (t : Tabled g (c .order) (c .size) w) {A B : Group}
     (a : (u : ℕ) → u < g .order → A u ≡ leb (c .x) (degreeOf (g .order) (g .size) w′ u))
     (b : (v : ℕ) → v < g .order → B v ≡ leb (c .y) (degreeOf (g .order) (g .size) w′ (g .order + v))) where
   -- the sources left are the first group
   sources-same : Same g (left (g .order) (g .size) w′ p) A
-  sources-same u l = finished-source (c .x) (c .y) (t .closed) (ended-indexed t e) (ended-peeling t e) (e .done) u l ∙ sym (a u l)
+  sources-same u l = left-source (c .x) (c .y) (t .closed) (ended-indexed t e) (ended-peeling t e) u l ∙ sym (a u l)
 
   -- the targets left the second
   targets-same : Same g (targets g (left (g .order) (g .size) w′ p)) B
-  targets-same v l = finished-target (c .x) (c .y) (t .closed) (ended-indexed t e) (ended-peeling t e) (e .done) v l ∙ sym (b v l)
+  targets-same v l = left-target (c .x) (c .y) (t .closed) (ended-indexed t e) (ended-peeling t e) v l ∙ sym (b v l)
 
   -- they are the core
   ended-core : Core g (c .x) (c .y) A B
   ended-core =
-      core-same (t .closed) sources-same targets-same (finished-core (c .x) (c .y) (t .closed) (ended-indexed t e) (ended-peeling t e) (e .done))
+      core-same (t .closed) sources-same targets-same (finished-core (c .x) (c .y) (t .closed) (ended-indexed t e) (ended-peeling t e) (e .drained refl))
 
   -- the peel has their sizes
   ended-sources : p .sources ≡ card g A
   ended-sources =
-      finished-sources (c .x) (c .y) (t .closed) (ended-indexed t e) (ended-peeling t e) (e .done) ∙ sum-ext (g .order) (λ u l. rw (sources-same u l))
+      ended-peeling t e .counts .sources ∙ sum-ext (g .order) (λ u l. rw (sources-same u l))
 
   -- on both sides
   ended-targets : p .targets ≡ card g B
   ended-targets =
-      finished-targets (c .x) (c .y) (t .closed) (ended-indexed t e) (ended-peeling t e) (e .done) ∙ sum-ext (g .order) (λ v l. rw (targets-same v l))
+      ended-peeling t e .counts .targets ∙ sum-ext (g .order) (λ v l. rw (targets-same v l))
 
   -- and its table their edges
   ended-edges : sum (λ u. if (leb (c .x) (degreeOf (g .order) (g .size) w′ u)) (degreeOf (g .order) (g .size) w′ u)) (g .order) ≡ edges g A B
   ended-edges =
-      sum-ext (g .order) (λ u l. rw (finished-source (c .x) (c .y) (t .closed) (ended-indexed t e) (ended-peeling t e) (e .done) u l))
-      ∙ sym (finished-edges (c .x) (c .y) (t .closed) (ended-indexed t e) (ended-peeling t e) (e .done))
+      sum-ext (g .order) (λ u l. rw (left-source (c .x) (c .y) (t .closed) (ended-indexed t e) (ended-peeling t e) u l))
+      ∙ sym (finished-edges (c .x) (c .y) (t .closed) (ended-indexed t e) (ended-peeling t e) (e .drained refl))
       ∙ edges-same (t .closed) sources-same targets-same
 
-module _ {c : Scope} {w w′ s′ t′ : List ℕ} {p : Peel} {r : Totals} (s t : List ℕ) {at : ℕ} (e : Ended c w w′ p)
+module _ {c : Scope} {w w′ s′ t′ : List ℕ} {p : Peel} {r : Totals} (s t : List ℕ) {at : ℕ} (e : Ended true c w w′ p)
     (start : at ≡ 2 * c .order + 1 + 2 * c .size)
     (first : s′ ≡ bytesOf (c .order) (atLeast w′ at (c .x)) ++ drop (c .order) s)
     (second : t′ ≡ bytesOf (c .order) (atLeast w′ (at + c .order) (c .y)) ++ drop (c .order) t)

@@ -1,6 +1,7 @@
--- A place is dropped: it leaves its side, and then each place of its row loses an edge. A place that becomes short on the way is pushed: the
+-- A place is dropped: the head goes past it, and then each place of its row loses an edge. A place that becomes short on the way is pushed: the
 -- degree that it ends with is no greater than the one it has then.
 use Prim.Native.Nat.{ℕ, _+_, _-_, _*_, _<_, _≤_}
+use mathlib.Core.Bool.{true}
 use mathlib.Core.List.{List}
 use mathlib.Core.Logic.{_≢_}
 use mathlib.Core.Path.{_≡_, refl, sym, ap, _∙_}
@@ -14,11 +15,15 @@ use Rattle.graph.specs.Range.{sum, if}
 use Rattle.graph.specs.Linkage.{degree}
 use Rattle.graph.proofs.Ascents.{sum-part}
 use Rattle.graph.proofs.Tests.{if-same, if-other}
+use Rattle.graph.proofs.Degrees.{without}
+use Rattle.graph.proofs.Linkage.{degree-without, degree-same}
 use Rattle.peeling.specs.declared.Peel.{Peel}
-use Rattle.peeling.specs.Peeling.{startOf, rowLength, rowEntry, degreeOf, queueOf, entries, links, live, Queue, Peeling, Dropping, Kept, pushed, withDegree, withQueued, loweredPeel, loweredTable}
-use Rattle.peeling.proofs.Queues.{queue-room, queue-stays, queue-grows}
+use Rattle.peeling.specs.Peeling.{startOf, rowLength, rowEntry, degreeOf, queueOf, entries, links, live, left, Queue, Counts, Peeling, Dropping, Kept, Room, pushed, withDegree, withQueued, loweredPeel, loweredTable}
+use Rattle.peeling.proofs.Live.{live-suc, live-ext}
+use Rattle.peeling.proofs.Queues.{queue-stays, queue-grows}
+use Rattle.peeling.proofs.Sides.{counts-same, push-room, push-counts}
 use Rattle.peeling.proofs.Tables.{row-inside, with-queued-same, with-queued-other, with-queued-degree, with-degree-same, with-degree-other, with-degree-queue}
-use Rattle.peeling.proofs.Kept.{kept-next, kept-set, links-kept, rows-kept, entries-kept, degree-kept, counts-kept}
+use Rattle.peeling.proofs.Kept.{kept-next, kept-set, links-kept, rows-kept, entries-kept, degree-kept}
 
 -- one entry more of a row
 entries-suc : (n : ℕ) (w : List ℕ) (p k q : ℕ) → entries n w p (k + 1) q ≡ entries n w p k q + if (eqb (rowEntry n w (startOf w p + k)) q) 1
@@ -50,9 +55,13 @@ module _ {n m : ℕ} {need : ℕ → ℕ} {w : List ℕ} {s : Peel} {place k : �
         if-same other other 1 refl,
       )
 
-  -- there is room for it in the queue where it has no edge too many
-  pub drop-room : degreeOf n m w other ≡ need other → s .tail < 2 * n
-  drop-room e = queue-room (d .queue) other drop-inside (le-leb (need other) (degreeOf n m w other) (omega arith))
+  -- and is not short yet where it has none to spare
+  just-enough : degreeOf n m w other ≡ need other → leb (need other) (degreeOf n m w other) ≡ true
+  just-enough e = le-leb (need other) (degreeOf n m w other) (omega arith)
+
+  -- so then it can be pushed
+  pub drop-room : degreeOf n m w other ≡ need other → Room n s other
+  drop-room e = push-room (d .queue) (d .counts) other drop-inside (just-enough e)
 
   -- in any table with that edge lost
   module _ {w′ : List ℕ} (kept : Kept n m w w′)
@@ -83,15 +92,15 @@ module _ {n m : ℕ} {need : ℕ → ℕ} {w : List ℕ} {s : Peel} {place k : �
           entries-part n w place (k + 1) p (omega arith),
         )
 
-    -- with a queue that goes by the degrees, the drop has come one entry further
-    further : {s′ : Peel} → s′ .head ≡ s .head → s .tail ≤ s′ .tail → s′ .sources ≡ s .sources → s′ .targets ≡ s .targets
+    -- with a queue that goes by the degrees, and with its counts, the drop has come one entry further
+    further : {s′ : Peel} → s′ .head ≡ s .head → s .tail ≤ s′ .tail → Counts n (left n m w′ s′) s′
         → Queue (links n w′) (2 * n) need (degreeOf n m w′) (queueOf n m w′) (s′ .tail) → Dropping n m need w′ s′ place (k + 1)
-    further h t a b q =
+    further h t c q =
         record {
           rows = rows-kept (d .rows) kept;
           waiting = omega (arith, d .waiting);
           queue = q;
-          counts = rw h (counts-kept (d .rows) kept (s .head) before a b (d .counts));
+          counts = c;
           is-place = d .is-place;
           degrees = rw h passed;
         }
@@ -119,7 +128,7 @@ module _ {n m : ℕ} {need : ℕ → ℕ} {w : List ℕ} {s : Peel} {place k : �
   -- a place that has edges to spare is not pushed
   drop-stays : degreeOf n m w other ≢ need other → Dropping n m need less s place (k + 1)
   drop-stays h =
-      further less-keeps (λ i b. same i) less-degree refl (le-refl _) refl refl
+      further less-keeps (λ i b. same i) less-degree refl (le-refl _) (counts-same (live-ext (s .tail) (λ i b. same i)) (d .counts))
       (queue-stays (λ p q a b. sym (links-kept (d .rows) less-keeps p q a)) (λ p b. le-refl _) (λ i b. same i) (d .queue) enough)
     where
       -- the queue is as it was
@@ -149,7 +158,7 @@ module _ {n m : ℕ} {need : ℕ → ℕ} {w : List ℕ} {s : Peel} {place k : �
 
     -- keeps the rows
     full-keeps : Kept n m w full
-    full-keeps = kept-next less-keeps (kept-set n m less (4 * n + 1 + 2 * m + s .tail) other (omega arith) (omega (arith, drop-room e)))
+    full-keeps = kept-next less-keeps (kept-set n m less (4 * n + 1 + 2 * m + s .tail) other (omega arith) (omega (arith, drop-room e .tail)))
 
     -- its degrees
     full-degree : (p : ℕ) → p < 2 * n → degreeOf n m full p ≡ degreeOf n m less p
@@ -161,16 +170,20 @@ module _ {n m : ℕ} {need : ℕ → ℕ} {w : List ℕ} {s : Peel} {place k : �
         sym (with-queued-other n m less (s .tail) other i (ne-of-lt b) ∙ with-degree-queue n m w other (degreeOf n m w other - 1) i drop-inside)
 
     -- the drop has come one entry further
-    drop-pushes : Dropping n m need full (pushed s) place (k + 1)
+    drop-pushes : Dropping n m need full (pushed n s other) place (k + 1)
     drop-pushes =
-        further full-keeps before lost refl (omega arith) refl refl
+        further full-keeps before lost refl (omega arith) (push-counts (d .queue) (d .counts) full-queue other drop-inside top (just-enough e))
         (queue-grows (λ p q a b. sym (links-kept (d .rows) full-keeps p q a)) (λ p b. le-refl _) full-queue (d .queue) other (s .head) drop-inside (d .waiting)
-        (with-queued-same n m less (s .tail) other (omega (arith, drop-room e, d .rows .long, less-keeps .same-length)))
-        (le-leb (need other) (degreeOf n m w other) (omega arith))
+        top
+        (just-enough e)
         (omega (arith, full-degree other drop-inside, less-same))
         (least full-keeps before lost other drop-inside)
         (λ p b q. rw (full-degree p b, with-degree-other n m w other (degreeOf n m w other - 1) p q)))
       where
+        -- where the place stands now
+        top : queueOf n m full (s .tail) ≡ other
+        top = with-queued-same n m less (s .tail) other (omega (arith, drop-room e .tail, d .rows .long, less-keeps .same-length))
+
         -- the queue before the head is as it was
         before : (i : ℕ) → i < s .head → queueOf n m w i ≡ queueOf n m full i
         before i b = full-queue i (omega (arith, d .waiting))
@@ -194,6 +207,34 @@ module _ {n m : ℕ} {need : ℕ → ℕ} {w : List ℕ} {s : Peel} {place k : �
         | yes e ↦ rw (eq-eqb _ _ e) (full-keeps e)
         | no e ↦ rw (ne-eqb _ _ e) less-keeps
       ]
+
+-- The drop of the place at the head begins with the degrees as they were, when the head goes past it.
+pub drop-begins : {n m : ℕ} {need : ℕ → ℕ} {w : List ℕ} {s : Peel} → Peeling n m need w s → s .head < s .tail → {q : ℕ} → q ≡ queueOf n m w (s .head)
+    → Dropping n m need w (record { head = s .head + 1; tail = s .tail; sources = s .sources; targets = s .targets }) q 0
+unfolding entries sum
+drop-begins {n} {m} {need} {w} {s} k l {q} e =
+    record {
+      rows = k .rows;
+      waiting = omega arith;
+      queue = k .queue;
+      counts = record { sources = k .counts .sources; targets = k .counts .targets };
+      is-place = inside;
+      degrees = λ p b. omega (
+        arith,
+        k .degrees p b,
+        degree-without (links n w) (live (queueOf n m w) (s .head)) p q inside (rw e (k .queue .distinct (s .head) l)),
+        degree-same (links n w) {N = 2 * n} (λ r a. is-without r) p,
+        k .rows .symmetric p q b inside,
+      );
+    }
+  where
+    -- it is a place
+    inside : q < 2 * n
+    inside = rw e (k .queue .inside (s .head) l)
+
+    -- and is no longer live
+    is-without : (p : ℕ) → live (queueOf n m w) (s .head + 1) p ≡ without (live (queueOf n m w) (s .head)) q p
+    is-without p = rw (add-one (s .head), e) (live-suc (queueOf n m w) (s .head) p)
 
 -- no head moves when a place is lowered
 pub lowered-head : (n m : ℕ) (need : ℕ → ℕ) (w : List ℕ) (s : Peel) (place : ℕ) → loweredPeel n m need w s place .head ≡ s .head

@@ -1,5 +1,6 @@
 -- What stores to the degrees and to the queue keep: starts, rows, and so the edges between places.
 use Prim.Native.Nat.{ℕ, _+_, _*_, _<_, _≤_}
+use mathlib.Core.Bool.{Bool}
 use mathlib.Core.List.{List}
 use mathlib.Core.Path.{_≡_, refl, sym, _∙_}
 use native.Mathlib.Omega.{arith}
@@ -11,7 +12,8 @@ use Rattle.graph.proofs.Sums.{sum-ext}
 use Rattle.graph.proofs.Linkage.{degree-same}
 use Rattle.graph.proofs.Links.{degree-links}
 use Rattle.peeling.specs.declared.Peel.{Peel}
-use Rattle.peeling.specs.Peeling.{startOf, rowLength, queueOf, entries, links, live, Rows, Indexed, Tabled, Counts, Kept}
+use Rattle.peeling.specs.declared.Scope.{Scope}
+use Rattle.peeling.specs.Peeling.{startOf, rowLength, queueOf, entries, links, live, Rows, Indexed, Tabled, Kept, Ended}
 use Rattle.peeling.proofs.Live.{live-ext}
 use Rattle.peeling.proofs.Tables.{row-inside}
 
@@ -72,15 +74,6 @@ module _ {n m : ℕ} {w w′ : List ℕ} (r : Rows n m w) (k : Kept n m w w′) 
       degree-links (links n w) (links n w′) (live (queueOf n m w) h) p (λ q b. sym (links-kept p q l))
       ∙ degree-same (links n w′) (λ q b. live-ext h e q) p
 
-  -- and as many sources and targets
-  pub counts-kept : {s s′ : Peel} (h : ℕ) → ((i : ℕ) → i < h → queueOf n m w i ≡ queueOf n m w′ i) → s′ .sources ≡ s .sources → s′ .targets ≡ s .targets
-      → Counts n (live (queueOf n m w) h) s → Counts n (live (queueOf n m w′) h) s′
-  counts-kept h e a b c =
-      record {
-        sources = a ∙ c .sources ∙ sum-ext n (λ p l. rw (live-ext h e p));
-        targets = b ∙ c .targets ∙ sum-ext n (λ p l. rw (live-ext h e (n + p)));
-      }
-
 -- the rows of a graph are so still
 pub indexed-kept : {g : Graph} {w w′ : List ℕ} → Indexed g w → Kept (g .order) (g .size) w w′ → Indexed g w′
 indexed-kept i k = record { rows = rows-kept (i .rows) k; linked = λ p q a b. links-kept (i .rows) k p q a ∙ i .linked p q a b }
@@ -94,3 +87,7 @@ tabled-kept t k =
       order = t .order;
       size = t .size;
     }
+
+-- a peel has come to its end from every table whose rows its table keeps
+pub ended-from : {drain : Bool} {c : Scope} {v w w′ : List ℕ} {s : Peel} → Ended drain c w w′ s → Kept (c .order) (c .size) v w′ → Ended drain c v w′ s
+ended-from e k = record { peeling = e .peeling; drained = e .drained; done = e .done; kept = k }

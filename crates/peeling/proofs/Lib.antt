@@ -5,7 +5,7 @@ pub mod Kept
 pub mod Raises
 pub mod Drops
 pub mod Passes
-pub mod Takes
+pub mod Sides
 pub mod Whole
 pub mod Finished
 pub mod Bytes

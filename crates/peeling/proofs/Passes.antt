@@ -5,7 +5,7 @@ use mathlib.Core.Path.{_≡_, refl, ap, _∙_}
 use native.Mathlib.Omega.{arith}
 use lib.ListN.{length, getD}
 use Rattle.peeling.specs.declared.Peel.{Peel}
-use Rattle.peeling.specs.Peeling.{startOf, rowLength, rowEntry, degreeOf, Rows, Peeling, Dropping, Kept, loweredPeel, loweredTable}
+use Rattle.peeling.specs.Peeling.{startOf, rowLength, rowEntry, degreeOf, Rows, Peeling, Dropping, Kept, Room, loweredPeel, loweredTable}
 use Rattle.peeling.proofs.Tables.{start-last}
 use Rattle.peeling.proofs.Kept.{kept-same, kept-next, start-kept}
 use Rattle.peeling.proofs.Drops.{drop-inside, drop-some, drop-room, drop-lowers, drop-keeps, drop-ends, lowered-head}
@@ -78,8 +78,8 @@ module _ {n m : ℕ} {need : ℕ → ℕ} {w₀ : List ℕ} {s₀ : Peel} {place
       pub pass-some : 1 ≤ degreeOf n m w q
       pass-some = rw is-entry (drop-some (g .dropping) entry)
 
-      -- and with room for it in the queue where it becomes short
-      pub pass-room : degreeOf n m w q ≡ need q → s .tail < 2 * n
+      -- which can be pushed where it becomes short
+      pub pass-room : degreeOf n m w q ≡ need q → Room n s q
       pass-room = rw is-entry (drop-room (g .dropping) entry)
 
       -- when it has lost its edge, one entry more is passed

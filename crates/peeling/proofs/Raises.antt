@@ -11,10 +11,11 @@ use borrow.Author.Tests.{lt-ltb, le-ltb, le-leb, lt-leb}
 use lib.Dec.{leb, ltb}
 use Rattle.graph.specs.Cover.{need}
 use Rattle.peeling.specs.declared.Peel.{Peel}
-use Rattle.peeling.specs.Peeling.{degreeOf, queueOf, Peeling, Kept, raised, pushed, withQueued}
-use Rattle.peeling.proofs.Queues.{queue-room, queue-stays, queue-grows}
+use Rattle.peeling.specs.Peeling.{degreeOf, queueOf, Peeling, Kept, Room, raised, pushed, withQueued}
+use Rattle.peeling.proofs.Queues.{queue-stays, queue-grows}
+use Rattle.peeling.proofs.Sides.{push-room, push-counts}
 use Rattle.peeling.proofs.Tables.{with-queued-same, with-queued-other, with-queued-degree}
-use Rattle.peeling.proofs.Kept.{kept-set, links-kept, rows-kept, degree-kept, counts-kept}
+use Rattle.peeling.proofs.Kept.{kept-set, links-kept, rows-kept, degree-kept}
 
 -- places that need the same are short alike
 pub peel-needs : {n m : ℕ} {need need′ : ℕ → ℕ} {w : List ℕ} {s : Peel} → ((p : ℕ) → p < 2 * n → need p ≡ need′ p) → Peeling n m need w s → Peeling n m need′ w s
@@ -94,27 +95,31 @@ module _ {n m : ℕ} (old new : ℕ → ℕ) {w : List ℕ} {s : Peel} (i : ℕ)
 
   -- place i becomes short, and is pushed
   module _ (enough : old i ≤ degreeOf n m w i) (less : degreeOf n m w i < new i) where
-    -- then there is room in the queue
-    pub raise-room : s .tail < 2 * n
-    raise-room = queue-room (k .queue) i l (rw here (le-leb _ _ enough))
+    -- it was not short before
+    was-enough : leb (raised old new i i) (degreeOf n m w i) ≡ true
+    was-enough = rw here (le-leb _ _ enough)
+
+    -- so there is room for it
+    pub raise-room : Room n s i
+    raise-room = push-room (k .queue) (k .counts) i l was-enough
 
     -- the store keeps the rows
     pub raise-keeps : Kept n m w (withQueued n m w (s .tail) i)
-    raise-keeps = kept-set n m w (4 * n + 1 + 2 * m + s .tail) i (omega arith) (omega (arith, raise-room))
+    raise-keeps = kept-set n m w (4 * n + 1 + 2 * m + s .tail) i (omega arith) (omega (arith, raise-room .tail))
 
     -- and pushes the place
-    pub raise-pushes : Peeling n m (raised old new (i + 1)) (withQueued n m w (s .tail) i) (pushed s)
+    pub raise-pushes : Peeling n m (raised old new (i + 1)) (withQueued n m w (s .tail) i) (pushed n s i)
     raise-pushes =
         record {
           rows = rows-kept (k .rows) raise-keeps;
           waiting = omega (arith, k .waiting);
           queue = queue-grows (λ p q a b. sym (links-kept (k .rows) raise-keeps p q a)) grown same (k .queue) i (s .head) l (k .waiting)
-              (with-queued-same n m w (s .tail) i (omega (arith, raise-room, k .rows .long)))
-              (rw here (le-leb _ _ enough))
+              top
+              was-enough
               (rw (next, degree i l) less)
               (rw (← degree-kept (k .rows) raise-keeps (s .head) i before l, degree i l, k .degrees i l) (le-refl _))
               (λ p b q. rw (raised-other old new q, degree p b));
-          counts = counts-kept (k .rows) raise-keeps (s .head) before refl refl (k .counts);
+          counts = push-counts (k .queue) (k .counts) same i l top was-enough;
           degrees = λ p b. degree p b ∙ k .degrees p b ∙ degree-kept (k .rows) raise-keeps (s .head) p before b;
         }
       where
@@ -122,7 +127,11 @@ module _ {n m : ℕ} (old new : ℕ → ℕ) {w : List ℕ} {s : Peel} (i : ℕ)
         same : (j : ℕ) → j < s .tail → queueOf n m w j ≡ queueOf n m (withQueued n m w (s .tail) i) j
         same j b = sym (with-queued-other n m w (s .tail) i j (ne-of-lt b))
 
-        -- and so before the head
+        -- where the place stands now
+        top : queueOf n m (withQueued n m w (s .tail) i) (s .tail) ≡ i
+        top = with-queued-same n m w (s .tail) i (omega (arith, raise-room .tail, k .rows .long))
+
+        -- before the head it is as it was too
         before : (j : ℕ) → j < s .head → queueOf n m w j ≡ queueOf n m (withQueued n m w (s .tail) i) j
         before j b = same j (omega (arith, k .waiting))
 
@@ -131,5 +140,5 @@ module _ {n m : ℕ} (old new : ℕ → ℕ) {w : List ℕ} {s : Peel} (i : ℕ)
         degree p b = with-queued-degree n m w (s .tail) i p b
 
     -- at the table and the peel that `push` hands back
-    pub raise-next : {w′ : List ℕ} {s′ : Peel} → s′ ≡ pushed s → w′ ≡ withQueued n m w (s .tail) i → Peeling n m (raised old new (i + 1)) w′ s′ × Kept n m w w′
+    pub raise-next : {w′ : List ℕ} {s′ : Peel} → s′ ≡ pushed n s i → w′ ≡ withQueued n m w (s .tail) i → Peeling n m (raised old new (i + 1)) w′ s′ × Kept n m w w′
     raise-next u t = (rw (u, t) raise-pushes, rw t raise-keeps)

@@ -1,15 +1,14 @@
 -- One turn of a climb. Where somebody is left on both sides, a place that rises is left; the core is the same up to the least degree r of
--- those, so the core asked for at r is not empty.
+-- those, so the core asked for at r is not empty. Where a side is empty, so is the core asked for at k.
 use Prim.Native.Nat.{ℕ, _+_, _*_, _<_, _≤_}
-use mathlib.Core.Bool.{Bool, true, false, _||_, false≢true}
+use mathlib.Core.Bool.{Bool, true, false, false≢true}
 use mathlib.Core.List.{List}
-use mathlib.Core.Path.{_≡_, refl, sym, ap, _∙_}
+use mathlib.Core.Path.{_≡_, refl, sym, _∙_}
 use native.Mathlib.Omega.{arith}
 use borrow.Author.Tests.{leb-true, le-leb, lt-ltb, eqb-false, ne-eqb}
-use lib.Dec.{eqb, leb}
-use Rattle.graph.specs.Range.{sum, if}
-use Rattle.graph.specs.Graph.{Graph, Group, card}
-use Rattle.graph.specs.Core.{Nonempty}
+use lib.Dec.{leb}
+use Rattle.graph.specs.Range.{if}
+use Rattle.graph.specs.Graph.{Graph}
 use Rattle.graph.specs.Linkage.{Settled}
 use Rattle.graph.specs.Cover.{joined, need}
 use Rattle.graph.proofs.Tests.{and-left, and-right, and-both, if-some}
@@ -20,13 +19,13 @@ use Rattle.network.proofs.Accepted.{or-fails}
 use Rattle.peeling.specs.declared.Peel.{Peel}
 use Rattle.peeling.specs.declared.Rise.{Rise}
 use Rattle.peeling.specs.declared.Rise.the-variants.{Targets, Sources, Both}
-use Rattle.peeling.specs.Peeling.{degreeOf, needOf, left, Tabled, Peeling}
+use Rattle.peeling.specs.Peeling.{degreeOf, needOf, left, Tabled, Peeling, emptied}
 use Rattle.peeling.specs.Climbs.{ofSources, ofTargets, asked, Reached, rising, rests, Some, Least}
-use Rattle.peeling.proofs.Finished.{finished-degree, finished-sources, finished-targets, finished-both}
+use Rattle.peeling.proofs.Finished.{left-both, finished-degree}
 use Rattle.peeling.proofs.Asks.{asked-rising, asked-still}
 
 -- a side is empty by the test, or neither is
-pub sides-some : (s : Peel) → (eqb (s .sources) 0 || eqb (s .targets) 0) ≡ false → (1 ≤ s .sources) × (1 ≤ s .targets)
+pub sides-some : (s : Peel) → emptied s ≡ false → (1 ≤ s .sources) × (1 ≤ s .targets)
 sides-some s h =
     let (p, q) = or-fails _ _ .0 h in
     (one (s .sources) (eqb-false _ 0 p), one (s .targets) (eqb-false _ 0 q))
@@ -35,11 +34,11 @@ sides-some s h =
     one k h = omega arith
 
 -- where one is, not both have somebody
-pub sides-none : (s : Peel) → (eqb (s .sources) 0 || eqb (s .targets) 0) ≡ true → ¬ ((1 ≤ s .sources) × (1 ≤ s .targets))
+pub sides-none : (s : Peel) → emptied s ≡ true → ¬ ((1 ≤ s .sources) × (1 ≤ s .targets))
 sides-none s h (p, q) = false≢true (sym (or-fails _ _ .1 (ne-eqb (s .sources) 0 (λ e. omega arith), ne-eqb (s .targets) 0 (λ e. omega arith))) ∙ h)
 
 module _ {n m : ℕ} (rise : Rise) (fixed k : ℕ) {w : List ℕ} {s : Peel}
-    (e : Peeling n m (needOf (asked n m rise fixed k)) w s) (done : s .head ≡ s .tail) where
+    (e : Peeling n m (needOf (asked n m rise fixed k)) w s) where
   -- a place that is left has the edges that it needs
   left-enough : (p : ℕ) → p < 2 * n → left n m w s p ≡ true → leb (needOf (asked n m rise fixed k) p) (degreeOf n m w p) ≡ true
   left-enough p l h = sym (e .queue .short p l) ∙ h
@@ -51,10 +50,10 @@ module _ {n m : ℕ} (rise : Rise) (fixed k : ℕ) {w : List ℕ} {s : Peel}
       record { number = p; below = l; passes = and-both r (left-enough p l h) }
     where
       source : (u : ℕ) × (u < n) × (left n m w s u ≡ true)
-      source = let (u, l, h) = sum-some (λ u. if (left n m w s u) 1) n (rw (← done) (rw (e .counts .sources) at a)) in (u, l, if-some _ 1 h .0)
+      source = let (u, l, h) = sum-some (λ u. if (left n m w s u) 1) n (rw (e .counts .sources) at a) in (u, l, if-some _ 1 h .0)
 
       target : (v : ℕ) × (v < n) × (left n m w s (n + v) ≡ true)
-      target = let (v, l, h) = sum-some (λ v. if (left n m w s (n + v)) 1) n (rw (← done) (rw (e .counts .targets) at b)) in (v, l, if-some _ 1 h .0)
+      target = let (v, l, h) = sum-some (λ v. if (left n m w s (n + v)) 1) n (rw (e .counts .targets) at b) in (v, l, if-some _ 1 h .0)
 
       pick : (rise : Rise) → (p : ℕ) × (p < 2 * n) × (rising n rise p ≡ true) × (left n m w s p ≡ true)
       pick Targets = let (v, l, h) = target in (n + v, omega arith, le-leb n (n + v) (omega arith), h)
@@ -82,11 +81,11 @@ module _ {n m : ℕ} (rise : Rise) (fixed k : ℕ) {w : List ℕ} {s : Peel}
         go true q = rw (asked-rising n m rise fixed r p q) (least .low p l (and-both q (left-enough p l h)))
         go false q = rw (asked-still n m rise fixed r k p q) (leb-true _ _ (left-enough p l h))
 
-    -- so for every graph of the table they are a pair that is dense for what is asked at r
-    pub least-reached : {g : Graph} → Tabled g n m w → (1 ≤ s .sources) → (1 ≤ s .targets) → Reached g rise fixed r
-    least-reached {g} t a b =
+    -- so when none waits, for every graph of the table, they are a pair that is dense for what is asked at r
+    pub least-reached : s .head ≡ s .tail → {g : Graph} → Tabled g n m w → (1 ≤ s .sources) → (1 ≤ s .targets) → Reached g rise fixed r
+    least-reached done {g} t a b =
         nonempty (t .closed) (settled-dense (t .closed) (left (g .order) (g .size) w s) .0 settled)
-        (omega (arith, finished-sources _ _ (t .closed) (t .indexed) peeling done)) (omega (arith, finished-targets _ _ (t .closed) (t .indexed) peeling done))
+        (omega (arith, peeling .counts .sources)) (omega (arith, peeling .counts .targets))
       where
         peeling : Peeling (g .order) (g .size) (need (g .order) (ofSources rise fixed k) (ofTargets rise fixed k)) w s
         peeling = rw (t .order, t .size) e
@@ -98,8 +97,6 @@ module _ {n m : ℕ} (rise : Rise) (fixed k : ℕ) {w : List ℕ} {s : Peel}
                   (left-more p (omega (arith, t .order)) (rw (← t .order, ← t .size) h));
             }
 
--- where a side is empty, the core asked for at k is, for every graph of the table
-pub ended-stops : {n m : ℕ} (rise : Rise) (fixed k : ℕ) {w : List ℕ} {s : Peel} → Peeling n m (needOf (asked n m rise fixed k)) w s → s .head ≡ s .tail
-    → {g : Graph} → Tabled g n m w → (eqb (s .sources) 0 || eqb (s .targets) 0) ≡ true → ¬ Reached g rise fixed k
-ended-stops {n} {m} rise fixed k {w} {s} e done {g} t z h =
-    sides-none s z (finished-both _ _ (t .closed) (t .indexed) (rw (t .order, t .size) e) done .1 h)
+  -- where a side is empty, the core asked for at k is, for every graph of the table
+  pub emptied-stops : {g : Graph} → Tabled g n m w → emptied s ≡ true → ¬ Reached g rise fixed k
+  emptied-stops t z h = sides-none s z (left-both _ _ {s = s} (t .closed) (t .indexed) (rw (t .order, t .size) e) h)

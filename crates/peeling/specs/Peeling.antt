@@ -1,6 +1,6 @@
 -- The work table as a graph of 2n places, and how far a peel of it has come.
 use Prim.Native.Nat.{ℕ, zero, suc, _+_, _-_, _*_, _<_, _≤_}
-use mathlib.Core.Bool.{true, not, _&&_, cond}
+use mathlib.Core.Bool.{Bool, true, false, not, _&&_, _||_, cond}
 use mathlib.Core.List.{List}
 use mathlib.Core.Path.{_≡_}
 use lib.Dec.{eqb, leb, ltb}
@@ -86,17 +86,18 @@ pub record Queue (L : ℕ → ℕ → ℕ) (N : ℕ) (need degrees queue : ℕ �
   pub short : (p : ℕ) → p < N → live queue tail p ≡ leb (need p) (degrees p)
   pub surrounds : Surrounds L N need (live queue tail)
 
--- the live sources and targets of a peel are those of R
+-- the sources and targets that a peel counts are those of R
 pub record Counts (n : ℕ) (R : Group) (s : Peel) : Type 0 where
   pub sources : s .sources ≡ sum (λ p. if (R p) 1) n
   pub targets : s .targets ≡ sum (λ p. if (R (n + p)) 1) n
 
--- A peel: the places before the head are dropped, and each degree is the number of edges to places not dropped.
+-- A peel: the places before the head are dropped, and each degree is the number of edges to places not dropped. The counts are already
+-- without all that are queued.
 pub record Peeling (n m : ℕ) (need : ℕ → ℕ) (w : List ℕ) (s : Peel) : Type 0 where
   pub rows : Rows n m w
   pub waiting : s .head ≤ s .tail
   pub queue : Queue (links n w) (2 * n) need (degreeOf n m w) (queueOf n m w) (s .tail)
-  pub counts : Counts n (live (queueOf n m w) (s .head)) s
+  pub counts : Counts n (left n m w s) s
   pub degrees : (p : ℕ) → p < 2 * n → degreeOf n m w p ≡ degree (links n w) (2 * n) (live (queueOf n m w) (s .head)) p
 
 -- A peel in the midst of dropping a place, the last one before the head, with k entries of its row passed: each degree and the entries
@@ -105,7 +106,7 @@ pub record Dropping (n m : ℕ) (need : ℕ → ℕ) (w : List ℕ) (s : Peel) (
   pub rows : Rows n m w
   pub waiting : s .head ≤ s .tail
   pub queue : Queue (links n w) (2 * n) need (degreeOf n m w) (queueOf n m w) (s .tail)
-  pub counts : Counts n (live (queueOf n m w) (s .head)) s
+  pub counts : Counts n (left n m w s) s
   pub is-place : place < 2 * n
   pub degrees : (p : ℕ) → p < 2 * n
       → degreeOf n m w p + entries n w place k p ≡ degree (links n w) (2 * n) (live (queueOf n m w) (s .head)) p + links n w place p
@@ -116,19 +117,35 @@ pub record Kept (n m : ℕ) (w w′ : List ℕ) : Type 0 where
   pub index : (i : ℕ) → i < 2 * n + 1 + 2 * m → getD w′ i 0 ≡ getD w i 0
   pub past : drop (2 * m + 6 * n + 2) w′ ≡ drop (2 * m + 6 * n + 2) w
 
--- a peel by a scope has run to its end, and took one table to another
-pub record Ended (c : Scope) (w w′ : List ℕ) (s : Peel) : Type 0 where
+-- a side of a peel has nobody left
+abbrev pub emptied : Peel → Bool
+emptied s = eqb (s .sources) 0 || eqb (s .targets) 0
+
+-- A peel by a scope has come to its end, and took one table to another: no place waits, or a side is empty and the queue need not be drained.
+pub record Ended (drain : Bool) (c : Scope) (w w′ : List ℕ) (s : Peel) : Type 0 where
   pub peeling : Peeling (c .order) (c .size) (needOf c) w′ s
-  pub done : s .head ≡ s .tail
+  pub drained : drain ≡ true → s .head ≡ s .tail
+  pub done : emptied s ≡ false → s .head ≡ s .tail
   pub kept : Kept (c .order) (c .size) w w′
 
 -- what places need while it is raised: the new number below place i, and the old one from there on
 abbrev pub raised : (ℕ → ℕ) → (ℕ → ℕ) → ℕ → ℕ → ℕ
 raised old new i p = cond (ltb p i) (new p) (old p)
 
--- the peel with one place more in the queue
-abbrev pub pushed : Peel → Peel
-pushed s = record { head = s .head; tail = s .tail + 1; sources = s .sources; targets = s .targets }
+-- a place can be pushed: the queue has room, and the place's own side somebody
+pub record Room (n : ℕ) (s : Peel) (place : ℕ) : Type 0 where
+  pub tail : s .tail < 2 * n
+  pub side : 1 ≤ cond (ltb place n) (s .sources) (s .targets)
+
+-- the peel with one place more in the queue, which is taken out of its own side
+abbrev pub pushed : ℕ → Peel → ℕ → Peel
+pushed n s place =
+    record {
+      head = s .head;
+      tail = s .tail + 1;
+      sources = cond (ltb place n) (s .sources - 1) (s .sources);
+      targets = cond (ltb place n) (s .targets) (s .targets - 1);
+    }
 
 -- the table with a place put at the queue's entry i
 abbrev pub withQueued : ℕ → ℕ → List ℕ → ℕ → ℕ → List ℕ
@@ -138,16 +155,9 @@ withQueued n m w i place = set w (4 * n + 1 + 2 * m + i) place
 abbrev pub withDegree : ℕ → ℕ → List ℕ → ℕ → ℕ → List ℕ
 withDegree n m w place d = set w (2 * n + 1 + 2 * m + place) d
 
--- the peel with the head's place taken out of its own side
-abbrev pub taken : ℕ → Peel → ℕ → Peel
-taken n s place =
-    cond (ltb place n)
-    (record { head = s .head + 1; tail = s .tail; sources = s .sources - 1; targets = s .targets })
-    (record { head = s .head + 1; tail = s .tail; sources = s .sources; targets = s .targets - 1 })
-
 -- the peel after a place lost an edge: with the place pushed where its degree was just what it needs
 abbrev pub loweredPeel : ℕ → ℕ → (ℕ → ℕ) → List ℕ → Peel → ℕ → Peel
-loweredPeel n m need w s place = cond (eqb (degreeOf n m w place) (need place)) (pushed s) s
+loweredPeel n m need w s place = cond (eqb (degreeOf n m w place) (need place)) (pushed n s place) s
 
 -- and the table after it
 abbrev pub loweredTable : ℕ → ℕ → (ℕ → ℕ) → List ℕ → Peel → ℕ → List ℕ

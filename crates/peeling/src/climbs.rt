@@ -71,7 +71,8 @@ pub fn least_left(work: &[u16], scope: Scope, rise: Rise) -> usize
 }
 
 // The last k from `start` on at which the core is not empty, or start - 1. Nothing changes up to the least degree that is left on the
-// sides that rise, so k goes straight past it, and each turn drops somebody.
+// sides that rise, so k goes straight past it, and at each turn somebody becomes short. The queue is not drained: a peel is over as soon as
+// a side is empty.
 pub fn climb(
     work: &mut [u16],
     order: usize,
@@ -86,14 +87,14 @@ pub fn climb(
     ensures { λ r. ⌜ Climbed order size rise fixed start (now (work .entry)) (now (work .exit)) r ⌝ }
 {
     let mut k = start;
-    let mut peel = Peel::whole(work, asked(order, size, rise, fixed, start));
+    let mut peel = Peel::whole(work, asked(order, size, rise, fixed, start), false);
     let last = loop {
         if peel.is_empty() {
             break k - 1;
         }
         let scope = asked(order, size, rise, fixed, k);
         k = least_left(work, scope, rise) + 1;
-        peel = peel.advance(work, scope, asked(order, size, rise, fixed, k));
+        peel = peel.advance(work, scope, asked(order, size, rise, fixed, k), false);
     };
     last
 }

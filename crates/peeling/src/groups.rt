@@ -54,14 +54,14 @@ pub fn edges_left(work: &[u16], at: usize, n: usize, least: usize) -> u32
     total
 }
 
-// 01: the core, of every graph whose rows the table holds.
+// 01: the core, of every graph whose rows the table holds. The queue is drained, since the groups are read off the degrees.
 pub fn core_in(work: &mut [u16], scope: Scope, s: &mut [u8], t: &mut [u8]) -> Totals
     requires { ⌜ Small (scope .order) (scope .size) ⌝ }
     requires { ⌜ Rows (scope .order) (scope .size) (now work) ⌝ }
     requires { ⌜ (scope .order ≤ length (now s)) × (scope .order ≤ length (now t)) ⌝ }
     ensures { λ r. ⌜ CoreIn scope (now (work .entry)) (now (work .exit)) (now (s .entry)) (now (s .exit)) (now (t .entry)) (now (t .exit)) r ⌝ }
 {
-    let peel = Peel::whole(work, scope);
+    let peel = Peel::whole(work, scope, true);
     let n = scope.order;
     let at = degrees_at(scope);
     write_group(work, at, n, scope.x, s);

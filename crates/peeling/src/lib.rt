@@ -3,7 +3,7 @@ mod climbs;
 mod groups;
 mod peels;
 
-// How far a peel has come: head and tail of the queue of places that are short, and how many places of each side are not dropped.
+// How far a peel has come: head and tail of the queue of places that are short, and how many places of each side are not in it.
 pub struct Peel {
     pub head: usize,
     pub tail: usize,

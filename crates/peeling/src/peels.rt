@@ -3,13 +3,13 @@
 use crate::Peel;
 use crate::Scope;
 use network::wide16;
-ghost use mathlib.Core.Bool.{_||_};
+ghost use mathlib.Core.Bool.{not, _&&_, _||_};
 ghost use mathlib.Core.Path.{_≡_};
 ghost use Prim.Native.Nat.{ℕ, _+_, _-_, _*_, _<_, _≤_};
-ghost use lib.Dec.{eqb};
+ghost use lib.Dec.{ltb};
 ghost use lib.ListN.{length};
 ghost use Rattle.graph.specs.Cover as cover;
-ghost use Rattle.peeling.specs.Peeling.{Small, Rows, Peeling, Dropping, Kept, Ended, rowLength, degreeOf, needOf, raised, pushed, taken, withDegree, withQueued, loweredPeel, loweredTable};
+ghost use Rattle.peeling.specs.Peeling.{Small, Rows, Peeling, Dropping, Kept, Ended, Room, rowLength, degreeOf, needOf, emptied, raised, pushed, withDegree, withQueued, loweredPeel, loweredTable};
 
 // The edges that a place needs.
 pub fn need(scope: Scope, place: usize) -> usize
@@ -78,19 +78,30 @@ impl Peel {
         }
     }
 
-    // The place put at the queue's tail.
+    // The place put at the queue's tail, and so taken out of its own side.
     fn push(self, work: &mut [u16], scope: Scope, place: usize) -> Peel
         requires { ⌜ Small (scope .order) (scope .size) ⌝ }
         requires { ⌜ 2 * scope .size + 6 * scope .order + 2 ≤ length (now work) ⌝ }
-        requires { ⌜ (place < 2 * scope .order) × (self .tail < 2 * scope .order) ⌝ }
-        ensures { λ r. ⌜ r ≡ pushed self ⌝ }
+        requires { ⌜ (place < 2 * scope .order) × Room (scope .order) self place ⌝ }
+        ensures { λ r. ⌜ r ≡ pushed (scope .order) self place ⌝ }
         ensures { λ _. ⌜ now (work .exit) ≡ withQueued (scope .order) (scope .size) (now (work .entry)) (self .tail) place ⌝ }
     {
         let at = queue_at(scope) + self.tail;
         work[at] = place as u16;
-        Peel {
+        let longer = Peel {
             tail: self.tail + 1,
             ..self
+        };
+        if place < scope.order {
+            Peel {
+                sources: self.sources - 1,
+                ..longer
+            }
+        } else {
+            Peel {
+                targets: self.targets - 1,
+                ..longer
+            }
         }
     }
 
@@ -139,7 +150,7 @@ impl Peel {
         requires { ⌜ Small (scope .order) (scope .size) ⌝ }
         requires { ⌜ 2 * scope .size + 6 * scope .order + 2 ≤ length (now work) ⌝ }
         requires { ⌜ (place < 2 * scope .order) × (1 ≤ degreeOf (scope .order) (scope .size) (now work) place) ⌝ }
-        requires { ⌜ (degreeOf (scope .order) (scope .size) (now work) place ≡ needOf scope place → self .tail < 2 * scope .order) ⌝ }
+        requires { ⌜ (degreeOf (scope .order) (scope .size) (now work) place ≡ needOf scope place → Room (scope .order) self place) ⌝ }
         ensures { λ r. ⌜ r ≡ loweredPeel (scope .order) (scope .size) (needOf scope) (now (work .entry)) self place ⌝ }
         ensures { λ _. ⌜ now (work .exit) ≡ loweredTable (scope .order) (scope .size) (needOf scope) (now (work .entry)) self place ⌝ }
     {
@@ -153,28 +164,7 @@ impl Peel {
         }
     }
 
-    // The head's place taken out of its own side.
-    fn take(self, scope: Scope, place: usize) -> Peel
-        requires { ⌜ self .head < 4096 ⌝ }
-        requires { ⌜ (place < scope .order → 1 ≤ self .sources) × (scope .order ≤ place → 1 ≤ self .targets) ⌝ }
-        ensures { λ r. ⌜ r ≡ taken (scope .order) self place ⌝ }
-    {
-        if place < scope.order {
-            Peel {
-                head: self.head + 1,
-                sources: self.sources - 1,
-                ..self
-            }
-        } else {
-            Peel {
-                head: self.head + 1,
-                targets: self.targets - 1,
-                ..self
-            }
-        }
-    }
-
-    // Each place of the row of a place that was taken has one edge less.
+    // Each place of the row of the place that the head has passed loses an edge.
     fn lower_row(self, work: &mut [u16], scope: Scope, place: usize) -> Peel
         requires { ⌜ Small (scope .order) (scope .size) ⌝ }
         requires { ⌜ Dropping (scope .order) (scope .size) (needOf scope) (now work) self place 0 ⌝ }
@@ -194,7 +184,7 @@ impl Peel {
         peel
     }
 
-    // The place at the head dropped: taken out of its own side, and each place of its row lowered.
+    // The place at the head dropped: the head goes past it, and each place of its row is lowered.
     fn drop_first(self, work: &mut [u16], scope: Scope) -> Peel
         requires { ⌜ Small (scope .order) (scope .size) ⌝ }
         requires { ⌜ self .head < self .tail ⌝ }
@@ -205,51 +195,62 @@ impl Peel {
     {
         let at = queue_at(scope) + self.head;
         let place = wide16(work[at]);
-        self.take(scope, place).lower_row(work, scope, place)
+        let past = Peel {
+            head: self.head + 1,
+            ..self
+        };
+        past.lower_row(work, scope, place)
     }
 
-    // Places dropped until none is short.
-    pub fn run(self, work: &mut [u16], scope: Scope) -> Peel
+    // Whether the place at the head is to be dropped: one waits there, and the queue is to be drained or neither side is empty yet.
+    fn goes_on(self, drain: bool) -> bool
+        ensures { λ r. ⌜ r ≡ (ltb (self .head) (self .tail) && (drain || not (emptied self))) ⌝ }
+    {
+        self.head < self.tail && (drain || !self.is_empty())
+    }
+
+    // Places dropped until none is short. What is not queued holds every settled set, so where a side of it is empty the core is: then the
+    // places that wait are dropped only if the queue is to be drained.
+    pub fn run(self, work: &mut [u16], scope: Scope, drain: bool) -> Peel
         requires { ⌜ Small (scope .order) (scope .size) ⌝ }
         requires { ⌜ Peeling (scope .order) (scope .size) (needOf scope) (now work) self ⌝ }
-        ensures { λ r. ⌜ Peeling (scope .order) (scope .size) (needOf scope) (now (work .exit)) r ⌝ }
-        ensures { λ r. ⌜ r .head ≡ r .tail ⌝ }
-        ensures { λ _. ⌜ Kept (scope .order) (scope .size) (now (work .entry)) (now (work .exit)) ⌝ }
+        ensures { λ r. ⌜ Ended drain scope (now (work .entry)) (now (work .exit)) r ⌝ }
     {
         let mut peel = self;
-        while peel.head < peel.tail {
+        while peel.goes_on(drain) {
             peel = peel.drop_first(work, scope);
         }
         peel
     }
 
     // The peel gone on to what `next` asks, and run to its end.
-    pub fn advance(self, work: &mut [u16], scope: Scope, next: Scope) -> Peel
+    pub fn advance(self, work: &mut [u16], scope: Scope, next: Scope, drain: bool) -> Peel
         requires { ⌜ Small (scope .order) (scope .size) ⌝ }
         requires { ⌜ (next .order ≡ scope .order) × (next .size ≡ scope .size) × (scope .x ≤ next .x) × (scope .y ≤ next .y) ⌝ }
         requires { ⌜ Peeling (scope .order) (scope .size) (needOf scope) (now work) self ⌝ }
-        ensures { λ r. ⌜ Ended next (now (work .entry)) (now (work .exit)) r ⌝ }
+        ensures { λ r. ⌜ Ended drain next (now (work .entry)) (now (work .exit)) r ⌝ }
     {
-        self.tighten(work, scope, next.x, next.y).run(work, next)
+        self.tighten(work, scope, next.x, next.y)
+            .run(work, next, drain)
     }
 
     // The peel of the whole graph for a scope, run to its end.
-    pub fn whole(work: &mut [u16], scope: Scope) -> Peel
+    pub fn whole(work: &mut [u16], scope: Scope, drain: bool) -> Peel
         requires { ⌜ Small (scope .order) (scope .size) ⌝ }
         requires { ⌜ Rows (scope .order) (scope .size) (now work) ⌝ }
-        ensures { λ r. ⌜ Ended scope (now (work .entry)) (now (work .exit)) r ⌝ }
+        ensures { λ r. ⌜ Ended drain scope (now (work .entry)) (now (work .exit)) r ⌝ }
     {
         let free = Scope {
             x: 0,
             y: 0,
             ..scope
         };
-        Peel::fresh(work, scope).advance(work, free, scope)
+        Peel::fresh(work, scope).advance(work, free, scope, drain)
     }
 
     // Whether a side has nobody left.
     pub fn is_empty(self) -> bool
-        ensures { λ r. ⌜ r ≡ eqb (self .sources) 0 || eqb (self .targets) 0 ⌝ }
+        ensures { λ r. ⌜ r ≡ emptied self ⌝ }
     {
         if self.sources == 0 {
             return true;

@@ -1,4 +1,4 @@
--- `cores::Peel::drop_first` meets its contract: the place at the head is taken, and its row passed.
+-- `cores::Peel::drop_first` meets its contract: the head goes past its place, and the place's row is passed.
 use Prim.Native.Nat.{ℕ, _+_}
 use mathlib.Core.Path.{_≡_, ap, _∙_}
 use native.Mathlib.Omega.{arith}
@@ -6,7 +6,7 @@ use denote.Ref.{now}
 use lib.ListN.{getD}
 use Rattle.peeling.specs.Peeling.{queueOf}
 use Rattle.peeling.proofs.Queues.{queue-most}
-use Rattle.peeling.proofs.Takes.{take-source, take-target, take-next, taken-head}
+use Rattle.peeling.proofs.Drops.{drop-begins}
 use borrow.Author.Needs.{needs}
 use Rattle.peeling.proofs.Peel.drop_first.Statement.{statement}
 use Rattle.peeling.proofs.Peel.drop_first.Tie as tie
@@ -33,27 +33,19 @@ slice-read-wide16 c = omega (arith, queue-most (c .before .before .before .befor
 wide16-requires : tie.Need-wide16-requires
 wide16-requires c κs = search needs
 
-take-requires : tie.Need-take-requires
-take-requires c κs =
-    let start = c .before .before .before .before .before .pre in (
-      omega (arith, queue-most (start .1 .1 .queue)),
-      (λ l. take-source (start .1 .1) (start .1 .0) (rw (is-first c) at l), λ l. take-target (start .1 .1) (start .1 .0) (rw (is-first c) at l)),
-    )
+add-t7 : tie.Need-add-t7
+add-t7 c = search needs
 
 lower-row-requires : tie.Need-lower-row-requires
 lower-row-requires c κs =
     let start = c .before .before .before .before .before .before .before .pre in
-    (start .0, take-next (start .1 .1) (start .1 .0) (is-first (c .before .before)) (c .before .take .ensures))
+    (start .0, drop-begins (start .1 .1) (start .1 .0) (is-first (c .before .before)))
 
 same-length : tie.Need-same-length
 same-length c = search needs
 
 returns : tie.Need-returns
-returns c =
-    let g = c .before .before .before .before .before .before .before .before .before .before .args in
-    let after = c .before .before .lower-row .ensures in
-    let one = taken-head (g .scope .order) (g .self) (c .before .before .before .before .before .wide16 .result) in
-    (after .0, (after .1 .0 ∙ ap (λ s. s .head) (c .before .before .before .before .take .ensures) ∙ one, after .1 .1))
+returns c = search needs
 
 pub drop-first-spec : {M : Type 1} → statement M
 drop-first-spec =
@@ -64,7 +56,7 @@ drop-first-spec =
     mul-wide16
     slice-read-wide16
     wide16-requires
-    take-requires
+    add-t7
     lower-row-requires
     same-length
     returns)

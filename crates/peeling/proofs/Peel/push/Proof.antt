@@ -1,6 +1,6 @@
--- `cores::Peel::push` meets its contract: one store, at the queue's tail.
-use mathlib.Core.Path.{refl}
+-- `cores::Peel::push` meets its contract: one store, at the queue's tail, and the test on the place decides which side loses one.
 use borrow.Author.Needs.{needs}
+use borrow.Author.Tests.{lt-ltb, le-ltb}
 use Rattle.peeling.proofs.Peel.push.Statement.{statement}
 use Rattle.peeling.proofs.Peel.push.Tie as tie
 
@@ -19,14 +19,26 @@ mul-work c = search needs
 slice-write-work : tie.Need-slice-write-work
 slice-write-work c = search needs
 
-add-t6 : tie.Need-add-t6
-add-t6 c = search needs
+add-t7 : tie.Need-add-t7
+add-t7 c = search needs
+
+sub-t15 : tie.Need-sub-t15
+sub-t15 c = rw (lt-ltb _ _ (c .before .if1 .taken)) at (c .before .before .before .before .before .before .before .pre .1 .1 .1 .side)
+
+sub-t19 : tie.Need-sub-t19
+sub-t19 c = rw (le-ltb _ _ (c .before .if1 .left)) at (c .before .before .before .before .before .before .before .pre .1 .1 .1 .side)
 
 same-length : tie.Need-same-length
 same-length c = search needs
 
 returns : tie.Need-returns
-returns c = (refl, simp (c .before .before .queue-at .ensures))
+returns c = (simp (lt-ltb _ _ (c .before .if1 .taken)), simp (c .before .before .before .before .before .queue-at .ensures))
+
+same-length-2 : tie.Need-same-length-2
+same-length-2 c = search needs
+
+returns-2 : tie.Need-returns-2
+returns-2 c = (simp (le-ltb _ _ (c .before .if1 .left)), simp (c .before .before .before .before .before .queue-at .ensures))
 
 pub push-spec : {M : Type 1} → statement M
 push-spec =
@@ -37,6 +49,10 @@ push-spec =
     cast-work
     mul-work
     slice-write-work
-    add-t6
+    add-t7
+    sub-t15
+    sub-t19
     same-length
-    returns)
+    returns
+    same-length-2
+    returns-2)

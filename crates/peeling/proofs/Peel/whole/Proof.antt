@@ -1,6 +1,6 @@
 -- `cores::Peel::whole` meets its contract: a peel that has not begun asks nothing, and goes on to what the scope asks.
 use borrow.Author.Needs.{needs}
-use Rattle.peeling.proofs.Kept.{kept-next}
+use Rattle.peeling.proofs.Kept.{kept-next, ended-from}
 use Rattle.peeling.proofs.Peel.whole.Statement.{statement}
 use Rattle.peeling.proofs.Peel.whole.Tie as tie
 
@@ -16,7 +16,7 @@ same-length c = search needs
 returns : tie.Need-returns
 returns c =
     let after = c .before .before .advance .ensures in
-    record { peeling = after .peeling; done = after .done; kept = kept-next (c .before .before .before .before .before .before .fresh .ensures .1) (after .kept) }
+    ended-from after (kept-next (c .before .before .before .before .before .before .fresh .ensures .1) (after .kept))
 
 pub whole-spec : {M : Type 1} → statement M
 whole-spec = tie.close (tie.spec fresh-requires advance-requires same-length returns)

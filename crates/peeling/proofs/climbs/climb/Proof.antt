@@ -1,12 +1,12 @@
--- `cores::climbs::climb` meets its contract. The loop's invariant: the peel has run to its end for what is asked at k, and where k is past
+-- `cores::climbs::climb` meets its contract. The loop's invariant: the peel has come to its end for what is asked at k, and where k is past
 -- the start, the core asked for at k - 1 is not empty. Each turn raises k, since a place that is left and rises has at least k edges, and
 -- no degree is above 65535: the measure is what is left up to there.
 use Prim.Native.Nat.{_+_, _-_}
-use mathlib.Core.Bool.{false, _||_}
+use mathlib.Core.Bool.{false}
 use mathlib.Core.Path.{_≡_, sym, _∙_}
 use native.Mathlib.Omega.{arith}
 use borrow.Author.Needs.{needs}
-use lib.Dec.{eqb}
+use Rattle.peeling.specs.Peeling.{emptied}
 use Rattle.peeling.proofs.Climbing.{Climbing, climb-begins, climb-some, climb-more, climb-ready, climb-next, climb-ends}
 use Rattle.peeling.proofs.climbs.climb.Statement.{statement}
 use Rattle.peeling.proofs.climbs.climb.Tie as tie
@@ -40,7 +40,7 @@ abbrev start : tie.Else1 Inv-loop μ-loop → tie.Start Inv-loop μ-loop
 start c = c .before .before .before .before .before .before .before .before .before
 
 -- past the test neither side is empty
-some : (c : tie.Else1 Inv-loop μ-loop) → let s = c .before .before .loop .peel in (eqb (s .sources) 0 || eqb (s .targets) 0) ≡ false
+some : (c : tie.Else1 Inv-loop μ-loop) → let s = c .before .before .loop .peel in emptied s ≡ false
 some c = sym (c .before .is-empty .ensures) ∙ c .if1 .left
 
 least-left-requires : tie.Need-least-left-requires Inv-loop μ-loop
