@@ -1,4 +1,5 @@
 // The check of a file: the numbers 1 to 8, in order.
+use crate::FileState;
 use network::CheckAnswer;
 use network::Refusal;
 use network::Side;
@@ -7,15 +8,15 @@ use network::u16_at;
 use network::wide16;
 use ordering::order;
 ghost use mathlib.Core.Path.{_≡_};
-ghost use mathlib.Core.Bool.{true, cond, _&&_};
+ghost use mathlib.Core.Bool.{true, false, cond, _&&_};
 ghost use Prim.Native.Nat.{ℕ, _+_, _*_, _<_, _≤_};
 ghost use lib.Dec.{ltb};
 ghost use lib.ListN.{length, getD};
-ghost use Rattle.graph.specs.Graph.{Simple};
 ghost use Rattle.graph.specs.Order.{Sorted, precedes};
-ghost use Rattle.network.specs.File.{graphOf, marked, outside, same, repeat, fileRefusal};
+ghost use Rattle.network.specs.File.{graphOf, marked, outside, same, repeat, at, fileRefusal};
 ghost use Rattle.network.specs.Sides.{Sound};
 ghost use Rattle.network.specs.Checks.{Header, HeaderNumber, CheckCall, ascends};
+ghost use Rattle.ordering.specs.Ascents.{Ascending};
 
 // 01: bytes 0 to 2 are the mark.
 fn is_marked(file: &[u8]) -> bool
@@ -105,7 +106,7 @@ fn is_before(file: &[u8], d: usize, e: usize) -> bool
 // Whether each edge comes before the next: then no edge repeats another, and nothing has to be sorted to see it.
 fn is_ascending(file: &[u8]) -> bool
     requires { ⌜ Sound (now file) ⌝ }
-    ensures { λ r. ⌜ (r ≡ true → Simple (graphOf (now (file .entry)))) ⌝ }
+    ensures { λ r. ⌜ (r ≡ true → Ascending (graphOf (now (file .entry)))) ⌝ }
 {
     let size = u16_at(file, 7);
     let mut e = 1;
@@ -156,38 +157,57 @@ fn first_repeat(file: &[u8]) -> usize
     requires { ⌜ Sound (now file) ⌝ }
     ensures { λ r. ⌜ r ≡ repeat (graphOf (now (file .entry))) ⌝ }
 {
-    if is_ascending(file) {
-        return u16_at(file, 7);
-    }
     let mut sorted = [0u16; 8192];
     order(file, Side::Source, &mut sorted);
     least_repeat(file, &sorted)
+}
+
+// A refusal, or none, of a file that is not known to ascend.
+fn unordered(number: u16, link: usize) -> FileState
+    requires { ⌜ link < 65536 ⌝ }
+    ensures { λ r. ⌜ (r .refusal ≡ at number link) × (r .ascending ≡ false) ⌝ }
+{
+    FileState {
+        refusal: Refusal {
+            number,
+            link: link as u16,
+        },
+        ascending: false,
+    }
+}
+
+// The refusal that the file's own bytes give, and whether its edges ascend as they stand.
+pub fn file_state(file: &[u8]) -> FileState
+    ensures { λ r. ⌜ r .refusal ≡ fileRefusal (now (file .entry)) ⌝ }
+    ensures { λ r. ⌜ (r .ascending ≡ true → Ascending (graphOf (now (file .entry)))) ⌝ }
+{
+    let number = header_number(file);
+    if number != 0 {
+        return unordered(number, 0);
+    }
+    let size = u16_at(file, 7);
+    let outside = first_outside(file);
+    if outside < size {
+        return unordered(7, outside);
+    }
+    if is_ascending(file) {
+        return FileState {
+            refusal: Refusal { number: 0, link: 0 },
+            ascending: true,
+        };
+    }
+    let repeat = first_repeat(file);
+    if repeat < size {
+        return unordered(8, repeat);
+    }
+    unordered(0, 0)
 }
 
 // The refusal that the file's own bytes give. Every call on a file begins with it.
 pub fn file_refusal(file: &[u8]) -> Refusal
     ensures { λ r. ⌜ r ≡ fileRefusal (now (file .entry)) ⌝ }
 {
-    let number = header_number(file);
-    if number != 0 {
-        return Refusal { number, link: 0 };
-    }
-    let size = u16_at(file, 7);
-    let outside = first_outside(file);
-    if outside < size {
-        return Refusal {
-            number: 7,
-            link: outside as u16,
-        };
-    }
-    let repeat = first_repeat(file);
-    if repeat < size {
-        return Refusal {
-            number: 8,
-            link: repeat as u16,
-        };
-    }
-    Refusal { number: 0, link: 0 }
+    file_state(file).refusal
 }
 
 // 01: the check of a file.

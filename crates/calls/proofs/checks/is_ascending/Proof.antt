@@ -6,7 +6,6 @@ use native.Mathlib.Decide.{decLe}
 use borrow.Author.Tests.{not-false}
 use Rattle.network.specs.File.{graphOf}
 use Rattle.network.specs.Checks.{ascends}
-use Rattle.network.proofs.Repeats.{ascending-simple}
 use native.Mathlib.Omega.{arith}
 use borrow.Author.Needs.{needs}
 use Rattle.calls.proofs.checks.is_ascending.Statement.{statement}
@@ -57,7 +56,7 @@ loop-again c =
     )
 
 returns-2 : tie.Need-returns-2 Inv-loop μ-loop
-returns-2 c h = ascending-simple (graphOf (c .before .before .before .before .args .file .now)) (λ d l. c .before .loop .inv .1 d (omega (arith, c .before .before .u16-at .ensures)))
+returns-2 c h d l = c .before .loop .inv .1 d (omega (arith, c .before .before .u16-at .ensures))
 
 pub is-ascending-spec : {M : Type 1} → statement M
 is-ascending-spec =

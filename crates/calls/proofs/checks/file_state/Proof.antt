@@ -1,0 +1,122 @@
+-- `file_state` gives the header's number, else 7; else none where the edges ascend, and of other files 8 or none.
+use mathlib.Core.Bool.{Bool, true, false, false≢true}
+use mathlib.Core.Path.{_≡_, sym, ap, _∙_}
+use native.Mathlib.Omega.{arith}
+use Rattle.graph.proofs.Ranges.{first-le}
+use Rattle.network.specs.File.{graphOf, outside}
+use Rattle.network.specs.Checks.{Header}
+use Rattle.network.proofs.Accepted.{repeat-simple}
+use Rattle.network.proofs.Compare.{names-outside}
+use Rattle.network.proofs.Headers.{gives-7, gives-8, gives-0, header-sound}
+use Rattle.network.proofs.Repeats.{ascending-simple}
+use borrow.Author.Needs.{needs}
+use Rattle.calls.proofs.checks.file_state.Statement.{statement}
+use Rattle.calls.proofs.checks.file_state.Tie as tie
+use Rattle.calls.proofs.checks.file_state.Reads as reads
+use Rattle.calls.proofs.checks.file_state.Lts as lts
+use Rattle.calls.proofs.checks.first_outside.Reads as first-outside-reads
+use Rattle.calls.proofs.checks.first_repeat.Reads as first-repeat-reads
+use Rattle.calls.proofs.checks.header_number.Reads as header-number-reads
+use Rattle.calls.proofs.checks.is_ascending.Reads as is-ascending-reads
+use Rattle.calls.proofs.checks.unordered.Reads as unordered-reads
+use Rattle.network.proofs.u16_at.Reads as u16-at-reads
+
+header-number-requires : tie.Need-header-number-requires
+header-number-requires c κs = search needs
+
+unordered-requires : tie.Need-unordered-requires
+unordered-requires c κs = search needs
+
+-- what is not told to ascend promises nothing
+untold : {P : Type 0} {b : Bool} → b ≡ false → b ≡ true → P
+untold p h = absurd (false≢true (sym p ∙ h))
+
+returns : tie.Need-returns
+returns c =
+    (c .unordered .ensures .0 ∙ sym (c .before .before .header-number .ensures .refused (c .before .if1 .taken)), untold (c .unordered .ensures .1))
+
+-- the header is in order
+header : (c : tie.Else1) → Header (c .before .before .before .args .file .now)
+header c = c .before .header-number .ensures .accepted (c .if1 .left)
+
+u16-at-requires : tie.Need-u16-at-requires
+u16-at-requires c κs = omega (arith, header c .long)
+
+first-outside-requires : tie.Need-first-outside-requires
+first-outside-requires c κs = header (c .before)
+
+unordered-requires-2 : tie.Need-unordered-requires-2
+unordered-requires-2 c κs = search needs
+
+returns-2 : tie.Need-returns-2
+returns-2 c =
+    let o = c .before .before in
+    let b = o .before in (
+      c .unordered2 .ensures .0 ∙ gives-7 (o .first-outside .result) (header (b .before)) (o .first-outside .ensures) (omega (arith, b .u16-at .ensures, c .before .if2 .taken)),
+      untold (c .unordered2 .ensures .1),
+    )
+
+-- no edge is outside
+inside : (c : tie.Else2) → outside (graphOf (c .before .before .before .before .before .before .args .file .now)) ≡ graphOf (c .before .before .before .before .before .before .args .file .now) .size
+inside c =
+    let b = c .before .before in
+    let g = graphOf (b .before .before .before .before .args .file .now) in
+    omega (arith, c .before .first-outside .ensures, b .u16-at .ensures, c .if2 .left, first-le (names-outside g) (g .size))
+
+is-ascending-requires : tie.Need-is-ascending-requires
+is-ascending-requires c κs = header-sound (header (c .before .before .before)) (inside c)
+
+returns-3 : tie.Need-returns-3
+returns-3 c =
+    let d = c .before .before in
+    let b = d .before .before in
+    let g = graphOf (b .before .before .before .before .args .file .now) in
+    let ascending = c .before .is-ascending .ensures (c .if3 .taken) in
+    (gives-0 (header (b .before)) (inside d) (omega (arith, repeat-simple g .1 (ascending-simple g ascending))), λ h. ascending)
+
+first-repeat-requires : tie.Need-first-repeat-requires
+first-repeat-requires c κs = let d = c .before .before in header-sound (header (d .before .before .before)) (inside d)
+
+unordered-requires-3 : tie.Need-unordered-requires-3
+unordered-requires-3 c κs = search needs
+
+returns-4 : tie.Need-returns-4
+returns-4 c =
+    let r = c .before .before in
+    let d = r .before .before .before in
+    let b = d .before .before in (
+      c .unordered3 .ensures .0
+          ∙ gives-8 (r .first-repeat .result) (header (b .before)) (inside d) (r .first-repeat .ensures) (omega (arith, b .u16-at .ensures, c .before .if4 .taken)),
+      untold (c .unordered3 .ensures .1),
+    )
+
+unordered-requires-4 : tie.Need-unordered-requires-4
+unordered-requires-4 c κs = search needs
+
+returns-5 : tie.Need-returns-5
+returns-5 c =
+    let r = c .before .before in
+    let d = r .before .before .before in
+    let b = d .before .before in (
+      c .unordered4 .ensures .0 ∙ gives-0 (header (b .before)) (inside d) (omega (arith, b .u16-at .ensures, r .first-repeat .ensures, c .before .if4 .left)),
+      untold (c .unordered4 .ensures .1),
+    )
+
+pub file-state-spec : {M : Type 1} → statement M
+file-state-spec =
+    tie.close
+    (tie.spec
+    header-number-requires
+    unordered-requires
+    returns
+    u16-at-requires
+    first-outside-requires
+    unordered-requires-2
+    returns-2
+    is-ascending-requires
+    returns-3
+    first-repeat-requires
+    unordered-requires-3
+    returns-4
+    unordered-requires-4
+    returns-5)
