@@ -1,5 +1,5 @@
 // The writer: an accepted file with its edges in ascending order.
-use crate::checks::file_refusal;
+use crate::checks::file_state;
 use network::Refusal;
 use network::Side;
 use network::WriteAnswer;
@@ -83,17 +83,32 @@ fn put_file(file: &[u8], out: &mut [u8])
     put_edges(file, &sorted, out);
 }
 
-// 01: the writer.
+// The file as it stands.
+fn copy(file: &[u8], out: &mut [u8])
+    requires { ⌜ length (now file) ≤ length (now out) ⌝ }
+    ensures { λ _. ⌜ now (out .exit) ≡ sets (now (out .entry)) 0 (now (file .entry)) ⌝ }
+{
+    for i in 0..file.len() {
+        out[i] = file[i];
+    }
+}
+
+// 01: the writer. A file whose edges ascend is the written file itself.
 pub fn write(file: &[u8], out: &mut [u8]) -> WriteAnswer
     ensures { λ r. ⌜ WriteCall (now (file .entry)) (now (out .entry)) (now (out .exit)) r ⌝ }
 {
-    let refusal = file_refusal(file);
+    let state = file_state(file);
+    let refusal = state.refusal;
     if refusal.number != 0 {
         return WriteAnswer::Refused(refusal);
     }
     let size = u16_at(file, 7);
     if out.len() < 9 + 4 * size {
         return WriteAnswer::Refused(Refusal { number: 9, link: 0 });
+    }
+    if state.ascending {
+        copy(file, out);
+        return WriteAnswer::Written { size };
     }
     put_file(file, out);
     WriteAnswer::Written { size }

@@ -1,43 +1,50 @@
--- `write` refuses by the file, then by a short output; else it stores the ordered file.
-use Prim.Native.Nat.{_≤_}
-use mathlib.Core.Path.{_≡_, ap, _∙_}
+-- `write` refuses by the file, then by a short output; else it stores the file where its edges ascend, and where not the ordered file.
+use Prim.Native.Nat.{ℕ, _<_, _≤_}
+use mathlib.Core.Path.{_≡_, sym, ap, _∙_}
 use native.Mathlib.Omega.{arith}
-use lib.ListN.{length}
+use lib.ListN.{length, getD}
+use lib.Seq.{sets}
 use Rattle.network.specs.File.{graphOf, none, fileRefusal}
 use Rattle.network.specs.Refusals.{fileLength}
 use Rattle.network.specs.Sides.{Sound}
-use Rattle.network.proofs.Accepted.{accepted}
+use Rattle.network.proofs.Accepted.{Accepted, accepted}
 use Rattle.network.proofs.Headers.{accepted-sound, found-none}
 use Rattle.network.proofs.Writer.{write-file, write-short, write-none, write-refused, write-accepted}
+use Rattle.calls.proofs.Itself.{written-itself}
 use borrow.Author.Needs.{needs}
 use Rattle.calls.proofs.writes.write.Statement.{statement}
 use Rattle.calls.proofs.writes.write.Tie as tie
 use Rattle.calls.proofs.writes.write.Reads as reads
 use Rattle.calls.proofs.writes.write.Lts as lts
-use Rattle.calls.proofs.checks.file_refusal.Reads as file-refusal-reads
-use Rattle.network.proofs.u16_at.Reads as u16-at-reads
+use Rattle.calls.proofs.checks.file_state.Reads as file-state-reads
+use Rattle.calls.proofs.writes.copy.Reads as copy-reads
 use Rattle.calls.proofs.writes.put_file.Reads as put-file-reads
+use Rattle.network.proofs.u16_at.Reads as u16-at-reads
 
-file-refusal-requires : tie.Need-file-refusal-requires
-file-refusal-requires c κs = search needs
+file-state-requires : tie.Need-file-state-requires
+file-state-requires c κs = search needs
 
 returns : tie.Need-returns
 returns c =
-    let a = c .before .before .before .before .before .args in
-    let e = c .before .before .file-refusal .ensures in
+    let a = c .before .before .before .before .before .before .args in
+    let e = c .before .before .before .file-state .ensures .0 in
     write-refused (e ∙ write-file (a .file .now) (length (a .out .now)) (λ z. c .if1 .taken (ap (λ r. r .number) e ∙ z))) (c .if1 .taken)
 
 -- the function's entry
 abbrev start : tie.Else1 → tie.Start
-start c = c .before .before .before .before .before
+start c = c .before .before .before .before .before .before
 
--- the file is accepted
+-- there is no refusal,
 gives-none : (c : tie.Else1) → fileRefusal (start c .args .file .now) ≡ none
-gives-none c = found-none _ (c .before .before .file-refusal .ensures) (c .if1 .left)
+gives-none c = found-none _ (c .before .before .before .file-state .ensures .0) (c .if1 .left)
 
--- so every edge of it can be read
+-- so the file is accepted,
+accept : (c : tie.Else1) → Accepted (start c .args .file .now)
+accept c = accepted (start c .args .file .now) .0 (gives-none c)
+
+-- and every edge of it can be read
 sound : (c : tie.Else1) → Sound (start c .args .file .now)
-sound c = accepted-sound (accepted (start c .args .file .now) .0 (gives-none c))
+sound c = accepted-sound (accept c)
 
 u16-at-requires : tie.Need-u16-at-requires
 u16-at-requires c κs = omega (arith, sound c .exact)
@@ -57,15 +64,34 @@ returns-2 c =
 long : (c : tie.Else2) → fileLength (graphOf (start (c .before .before) .args .file .now)) ≤ length (start (c .before .before) .args .out .now)
 long c = omega (arith, c .before .u16-at .ensures, c .if2 .left)
 
-put-file-requires : tie.Need-put-file-requires
-put-file-requires c κs = (sound (c .before .before .before), long (c .before))
+copy-requires : tie.Need-copy-requires
+copy-requires c κs = let d = c .before .before in omega (arith, long d, sound (d .before .before) .exact)
 
 same-length : tie.Need-same-length
 same-length c = search needs
 
+-- what is in the file is bytes
+bytes : (c : tie.Else1) (i : ℕ) → getD (start c .args .file .now) i 0 < 256
+bytes c i = omega (arith, c .before .before .before .before .before .shared-slice-known .given i)
+
 returns-3 : tie.Need-returns-3
 returns-3 c =
-    let d = c .before .before .before .before in
+    let t = c .before .before .before .before in
+    let d = t .before in
+    let b = d .before .before in
+    let itself = written-itself (start b .args .file .now) (bytes b) (accept b) (b .before .before .before .file-state .ensures .1 (t .if3 .taken)) in
+    write-accepted (write-none (start b .args .file .now) _ (gives-none b) (long d)) (d .before .u16-at .ensures .0) (long d)
+    (c .before .before .copy .ensures ∙ ap (sets (start b .args .out .now) 0) (sym itself))
+
+put-file-requires : tie.Need-put-file-requires
+put-file-requires c κs = let d = c .before .before in (sound (d .before .before), long d)
+
+same-length-2 : tie.Need-same-length-2
+same-length-2 c = search needs
+
+returns-4 : tie.Need-returns-4
+returns-4 c =
+    let d = c .before .before .before .before .before in
     let b = d .before .before in
     write-accepted (write-none (start b .args .file .now) _ (gives-none b) (long d)) (d .before .u16-at .ensures .0) (long d) (c .before .before .put-file .ensures)
 
@@ -73,12 +99,15 @@ pub write-spec : {M : Type 1} → statement M
 write-spec =
     tie.close
     (tie.spec
-    file-refusal-requires
+    file-state-requires
     returns
     u16-at-requires
     mul-if2
     add-if2
     returns-2
-    put-file-requires
+    copy-requires
     same-length
-    returns-3)
+    returns-3
+    put-file-requires
+    same-length-2
+    returns-4)
