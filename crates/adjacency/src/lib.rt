@@ -10,8 +10,8 @@ pub enum IndexAnswer {
     Refused(Refusal),
 }
 
-pub use indexes::fill_rows;
 pub use indexes::index;
+pub use indexes::lay_rows;
 pub use rows::refusal_of;
 pub use rows::row;
 pub use rows::row_of;

@@ -1,12 +1,15 @@
 // The network as a graph of 2n places in the work table: vertex u as a source is place u, and vertex v as a target place n + v.
-use adjacency::fill_rows;
+use adjacency::lay_rows;
 use network::Side;
 use network::u16_at;
 use ordering::fill_starts;
+use ordering::order;
+use ordering::turn;
 ghost use mathlib.Core.Path.{_≡_};
 ghost use Prim.Native.Nat.{ℕ, _+_, _*_, _<_, _≤_};
 ghost use lib.ListN.{length, getD, drop};
 ghost use Rattle.graph.specs.Range.{table};
+ghost use Rattle.graph.specs.Order.{Sorted, precedes};
 ghost use Rattle.network.specs.File.{graphOf};
 ghost use Rattle.network.specs.Refusals.{workLength};
 ghost use Rattle.network.specs.Sides.{Sound};
@@ -33,14 +36,15 @@ fn fill_in_starts(file: &[u8], starts: &mut [u16])
     raise(starts, size);
 }
 
-// The rows of the sources, each entry the place of a target.
-fn fill_out_rows(file: &[u8], rows: &mut [u16])
+// The rows of the sources, each entry the place of a target, from the edges by source.
+fn fill_out_rows(file: &[u8], sorted: &[u16], rows: &mut [u16])
     requires { ⌜ Sound (now file) ⌝ }
-    requires { ⌜ length (now rows) ≡ graphOf (now file) .size ⌝ }
+    requires { ⌜ (graphOf (now file) .size ≤ length (now sorted)) × (length (now rows) ≡ graphOf (now file) .size) ⌝ }
+    requires { ⌜ Sorted (precedes (graphOf (now file))) (graphOf (now file) .size) (now sorted) ⌝ }
     ensures { λ _. ⌜ now (rows .exit) ≡ outRows (graphOf (now (file .entry))) ⌝ }
 {
     let order = u16_at(file, 5);
-    fill_rows(file, Side::Source, rows);
+    lay_rows(file, Side::Source, sorted, rows);
     raise(rows, order);
 }
 
@@ -57,7 +61,7 @@ fn fill_place_starts(file: &[u8], starts: &mut [u16])
     fill_in_starts(file, &mut starts[order..end]);
 }
 
-// The rows of all places.
+// The rows of all places: the edges are sorted once, by source, and turned from there.
 fn fill_place_rows(file: &[u8], rows: &mut [u16])
     requires { ⌜ Sound (now file) ⌝ }
     requires { ⌜ length (now rows) ≡ 2 * graphOf (now file) .size ⌝ }
@@ -65,8 +69,12 @@ fn fill_place_rows(file: &[u8], rows: &mut [u16])
 {
     let middle = u16_at(file, 7);
     let end = 2 * middle;
-    fill_out_rows(file, &mut rows[0..middle]);
-    fill_rows(file, Side::Target, &mut rows[middle..end]);
+    let mut by_source = [0u16; 8192];
+    let mut by_target = [0u16; 8192];
+    order(file, Side::Source, &mut by_source);
+    turn(file, &by_source, &mut by_target);
+    fill_out_rows(file, &by_source, &mut rows[0..middle]);
+    lay_rows(file, Side::Target, &by_target, &mut rows[middle..end]);
 }
 
 // The graph of places in the first entries of the work table.
