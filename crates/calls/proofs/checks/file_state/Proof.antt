@@ -1,6 +1,6 @@
 -- `file_state` gives the header's number, else 7; else none where the edges ascend, and of other files 8 or none.
 use mathlib.Core.Bool.{Bool, true, false, false≢true}
-use mathlib.Core.Path.{_≡_, sym, ap, _∙_}
+use mathlib.Core.Path.{_≡_, sym, _∙_}
 use native.Mathlib.Omega.{arith}
 use Rattle.graph.proofs.Ranges.{first-le}
 use Rattle.network.specs.File.{graphOf, outside}

@@ -1,11 +1,10 @@
 -- `copy` stores each byte of the file at its own place. The invariant: the bytes before i are stored.
 use Prim.Native.Nat.{_+_, _≤_, _-_}
-use mathlib.Core.List.{[], _∷_, _++_}
+use mathlib.Core.List.{[], _∷_}
 use mathlib.Core.Path.{_≡_, refl, sym, ap, _∙_}
-use native.Mathlib.Nat.{zero-add}
 use native.Mathlib.Numerals.{add-one}
 use lib.ListN.{length, getD, set, take}
-use lib.Seq.{sets, length-sets, length-take-le, take-suc, take-length}
+use lib.Seq.{sets, length-take-le, take-suc, take-length}
 use Rattle.network.proofs.Puts.{sets-append}
 use native.Mathlib.Omega.{arith}
 use borrow.Author.Needs.{needs}
