@@ -12,6 +12,7 @@ ghost use mathlib.Core.Bool.{true, false, cond, _&&_};
 ghost use Prim.Native.Nat.{ℕ, _+_, _*_, _<_, _≤_};
 ghost use lib.Dec.{ltb};
 ghost use lib.ListN.{length, getD};
+ghost use Rattle.graph.specs.Graph.{Closed};
 ghost use Rattle.graph.specs.Order.{Sorted, precedes};
 ghost use Rattle.network.specs.File.{graphOf, marked, outside, same, repeat, at, fileRefusal};
 ghost use Rattle.network.specs.Sides.{Sound};
@@ -59,8 +60,27 @@ fn header_number(file: &[u8]) -> u16
     0
 }
 
-// The first edge that names a vertex not below n, or m.
-fn first_outside(file: &[u8]) -> usize
+fn greater(a: u16, b: u16) -> u16
+    ensures { λ r. ⌜ (a ≤ r) × (b ≤ r) ⌝ }
+{
+    if a < b { b } else { a }
+}
+
+// Whether every end is below n, by the greatest: a pass with no way out of it can look at many ends at once.
+fn is_inside(file: &[u8]) -> bool
+    requires { ⌜ Header (now file) ⌝ }
+    ensures { λ r. ⌜ (r ≡ true → Closed (graphOf (now (file .entry)))) ⌝ }
+{
+    let ends = 2 * u16_at(file, 7);
+    let mut greatest: u16 = 0;
+    for i in 0..ends {
+        greatest = greater(greatest, u16_at(file, 9 + 2 * i) as u16);
+    }
+    wide16(greatest) < u16_at(file, 5)
+}
+
+// The first edge that names a vertex not below n, or m, by a pass that ends there.
+fn search_outside(file: &[u8]) -> usize
     requires { ⌜ Header (now file) ⌝ }
     ensures { λ r. ⌜ r ≡ outside (graphOf (now (file .entry))) ⌝ }
 {
@@ -75,6 +95,17 @@ fn first_outside(file: &[u8]) -> usize
         }
     }
     size
+}
+
+// The first edge that names a vertex not below n, or m.
+fn first_outside(file: &[u8]) -> usize
+    requires { ⌜ Header (now file) ⌝ }
+    ensures { λ r. ⌜ r ≡ outside (graphOf (now (file .entry))) ⌝ }
+{
+    if is_inside(file) {
+        return u16_at(file, 7);
+    }
+    search_outside(file)
 }
 
 fn is_same(file: &[u8], d: usize, e: usize) -> bool
