@@ -1,4 +1,5 @@
--- One row or column: what the last core of it that a climb reaches comes before, and what the best comes before where it reaches none.
+-- One row or column: what the last core of it that a climb reaches comes before, and what the best comes before where the core is empty at its
+-- start.
 use Prim.Native.Nat.{ℕ, _<_, _≤_}
 use mathlib.Core.List.{List}
 use native.Mathlib.Nat.{le-trans}
@@ -7,8 +8,9 @@ use Rattle.graph.specs.Core.{Nonempty, Before}
 use Rattle.graph.proofs.Search.{before-refl, level-before, level-across-before, pruned-row, pruned-column}
 use Rattle.network.specs.declared.Side.{Side}
 use Rattle.network.specs.declared.Side.the-variants.{Source, Target}
+use Rattle.peeling.specs.Peeling.{Tabled, Kept}
 use Rattle.peeling.specs.Climbs.{Reached, LevelOf, Climbed}
-use Rattle.peeling.proofs.Levels.{climbed-level, climbed-none}
+use Rattle.peeling.proofs.Levels.{climbed-level}
 use Rattle.finding.specs.declared.Best.{Best}
 use Rattle.finding.specs.Searches.{riseOf, xAt, yAt, InRange, Begins, Tries}
 
@@ -35,21 +37,22 @@ pair-range : (side : Side) {fixed j : ℕ} → 1 ≤ fixed → fixed < 65536 →
 pair-range Source p q i l = record { x-positive = p; y-positive = i; x-small = q; y-small = l }
 pair-range Target p q i l = record { x-positive = i; y-positive = p; x-small = l; y-small = q }
 
-module _ {n m : ℕ} {side : Side} {fixed s : ℕ} {b : Best} {w w′ : List ℕ} {last : ℕ} (i : Begins side fixed b s) (c : Climbed n m (riseOf side) fixed s w w′ last) where
-  -- a climb that does not get to where a row or column begins leaves the best
-  pub tries-none : InRange b → last < s → Tries n m side fixed b w w′ b
-  tries-none r l =
+module _ {n m : ℕ} {side : Side} {fixed s : ℕ} {b : Best} {w w′ : List ℕ} (i : Begins side fixed b s) where
+  -- where the core is empty at the start of a row or column, the best is left
+  pub tries-none : InRange b → Kept n m w w′ → ((g : Graph) → Tabled g n m w → ¬ Reached g (riseOf side) fixed s) → Tries n m side fixed b w w′ b
+  tries-none r k none =
       record {
         in-range = r;
-        kept = c .kept;
+        kept = k;
         reached = λ g t h. h;
         before = before-refl (b .x) (b .y);
-        all = λ g t. line-pruned side fixed s b (t .closed) (i .low) (climbed-none (riseOf side) fixed s c l t);
+        all = λ g t. line-pruned side fixed s b (t .closed) (i .low) (none g t);
       }
 
-  -- and one that does gets to a better pair
-  pub tries-some : 1 ≤ fixed → fixed < 65536 → s ≤ last → Tries n m side fixed b w w′ (pairAt side fixed last)
-  tries-some p q l =
+  -- and a climb that gets there gets to a better pair
+  pub tries-some : {last : ℕ} → Climbed n m (riseOf side) fixed s w w′ last → 1 ≤ fixed → fixed < 65536 → s ≤ last
+      → Tries n m side fixed b w w′ (pairAt side fixed last)
+  tries-some {last} c p q l =
       record {
         in-range = pair-range side p q (le-trans (i .positive) l) (c .fits l);
         kept = c .kept;

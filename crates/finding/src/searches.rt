@@ -6,10 +6,12 @@ use peeling::Rise;
 use peeling::Scope;
 use peeling::climb;
 use peeling::core_in;
+use peeling::longest_row;
 ghost use mathlib.Core.Path.{_≡_};
-ghost use Prim.Native.Nat.{_<_, _≤_};
+ghost use Prim.Native.Nat.{ℕ, _+_, _*_, _<_, _≤_};
 ghost use lib.ListN.{length};
-ghost use Rattle.peeling.specs.Peeling.{Small, Rows};
+ghost use Rattle.peeling.specs.Peeling.{Small, Rows, startOf};
+ghost use Rattle.peeling.specs.Climbs.{NoLonger};
 ghost use Rattle.finding.specs.Searches.{riseOf, InRange, Begins, Tries, Searched, Found};
 
 // What rises where the need of a side is fixed.
@@ -19,6 +21,19 @@ fn rise_of(side: Side) -> Rise
     match side {
         Side::Source => Rise::Targets,
         Side::Target => Rise::Sources,
+    }
+}
+
+// The most edges of one place in the whole graph, on the side that rises where the need of the other is fixed. Past it every core of a row or
+// column is empty.
+fn longest_of(work: &[u16], order: usize, side: Side) -> usize
+    requires { ⌜ (order ≤ 2048) × (2 * order < length (now work)) ⌝ }
+    requires { ⌜ ((p : ℕ) → p < 2 * order → startOf (now work) p ≤ startOf (now work) (p + 1)) ⌝ }
+    ensures { λ r. ⌜ NoLonger order (riseOf side) (now (work .entry)) r ⌝ }
+{
+    match side {
+        Side::Source => longest_row(work, order, 2 * order),
+        Side::Target => longest_row(work, 0, order),
     }
 }
 
@@ -40,22 +55,28 @@ fn start_of(side: Side, fixed: usize, best: Best) -> usize
     if x < best.x { quotient } else { quotient + 1 }
 }
 
-// The better of the best and the last core of a row or column.
+// The better of the best and the last core of a row or column. Where it begins past `longest`, the most edges of a place that rises, no core from
+// there on has anybody, and nothing is climbed.
 fn try_one(
     work: &mut [u16],
     order: usize,
     size: usize,
     side: Side,
+    longest: usize,
     fixed: usize,
     best: Best,
 ) -> Best
     requires { ⌜ Small order size ⌝ }
     requires { ⌜ Rows order size (now work) ⌝ }
+    requires { ⌜ NoLonger order (riseOf side) (now work) longest ⌝ }
     requires { ⌜ (1 ≤ fixed) × (fixed < 65536) ⌝ }
     requires { ⌜ InRange best ⌝ }
     ensures { λ r. ⌜ Tries order size side fixed best (now (work .entry)) (now (work .exit)) r ⌝ }
 {
     let start = start_of(side, fixed, best);
+    if longest < start {
+        return best;
+    }
     let last = climb(work, order, size, rise_of(side), fixed, start);
     if last < start {
         return best;
@@ -66,7 +87,7 @@ fn try_one(
     }
 }
 
-// Every row and then every column up to k.
+// Every row and then every column up to k. The longest row of the places that rise is the same for a whole side, so it is looked for once.
 fn search(work: &mut [u16], order: usize, size: usize, k: usize) -> Best
     requires { ⌜ Small order size ⌝ }
     requires { ⌜ Rows order size (now work) ⌝ }
@@ -76,6 +97,7 @@ fn search(work: &mut [u16], order: usize, size: usize, k: usize) -> Best
     let mut best = Best { x: k, y: k };
     let mut side = Side::Source;
     'search: loop {
+        let longest = longest_of(work, order, side);
         let mut fixed = 1;
         loop {
             if k < fixed {
@@ -84,7 +106,7 @@ fn search(work: &mut [u16], order: usize, size: usize, k: usize) -> Best
                 }
                 break;
             }
-            best = try_one(work, order, size, side, fixed, best);
+            best = try_one(work, order, size, side, longest, fixed, best);
             fixed += 1;
         }
         side = Side::Target;

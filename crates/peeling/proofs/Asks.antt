@@ -1,14 +1,36 @@
--- What a climb asks of places: as k is raised, more of those on the sides that rise, and as much of the others.
-use Prim.Native.Nat.{ℕ, _≤_}
+-- What a climb asks of places: as k is raised, more of those on the sides that rise, and as much of the others. What has somebody on both sides
+-- has a place that rises.
+use Prim.Native.Nat.{ℕ, _+_, _*_, _<_, _≤_}
 use mathlib.Core.Bool.{Bool, true, false, cond, false≢true}
 use mathlib.Core.Path.{_≡_, refl, sym}
 use native.Mathlib.Nat.{le-refl}
-use borrow.Author.Tests.{leb-true, leb-false, lt-ltb, le-ltb}
+use native.Mathlib.Omega.{arith}
+use borrow.Author.Tests.{leb-true, leb-false, le-leb, lt-ltb, le-ltb}
 use lib.Dec.{ltb}
+use Rattle.graph.specs.Range.{sum, if}
+use Rattle.graph.specs.Graph.{Group}
+use Rattle.graph.proofs.Tests.{if-some}
+use Rattle.graph.proofs.Sums.{sum-some}
 use Rattle.peeling.specs.declared.Rise.{Rise}
 use Rattle.peeling.specs.declared.Rise.the-variants.{Targets, Sources, Both}
 use Rattle.peeling.specs.Peeling.{needOf}
 use Rattle.peeling.specs.Climbs.{ofSources, ofTargets, asked, rising}
+
+-- where R has somebody on both sides, a place of it rises
+pub rising-some : (n : ℕ) (rise : Rise) (R : Group) → 1 ≤ sum (λ u. if (R u) 1) n → 1 ≤ sum (λ v. if (R (n + v)) 1) n
+    → (p : ℕ) × (p < 2 * n) × (rising n rise p ≡ true) × (R p ≡ true)
+rising-some n rise R a b = pick rise
+  where
+    source : (u : ℕ) × (u < n) × (R u ≡ true)
+    source = let (u, l, h) = sum-some (λ u. if (R u) 1) n a in (u, l, if-some _ 1 h .0)
+
+    target : (v : ℕ) × (v < n) × (R (n + v) ≡ true)
+    target = let (v, l, h) = sum-some (λ v. if (R (n + v)) 1) n b in (v, l, if-some _ 1 h .0)
+
+    pick : (rise : Rise) → (p : ℕ) × (p < 2 * n) × (rising n rise p ≡ true) × (R p ≡ true)
+    pick Targets = let (v, l, h) = target in (n + v, omega arith, le-leb n (n + v) (omega arith), h)
+    pick Sources = let (u, l, h) = source in (u, omega arith, lt-ltb u n l, h)
+    pick Both = let (u, l, h) = source in (u, omega arith, refl, h)
 
 -- a place that rises needs k
 pub asked-rising : (n m : ℕ) (rise : Rise) (fixed k p : ℕ) → rising n rise p ≡ true → needOf (asked n m rise fixed k) p ≡ k

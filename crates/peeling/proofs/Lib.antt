@@ -15,3 +15,4 @@ pub mod Leasts
 pub mod Turns
 pub mod Climbing
 pub mod Levels
+pub mod Unreached

@@ -1,28 +1,25 @@
 -- One turn of a climb. Where somebody is left on both sides, a place that rises is left; the core is the same up to the least degree r of
 -- those, so the core asked for at r is not empty. Where a side is empty, so is the core asked for at k.
-use Prim.Native.Nat.{ℕ, _+_, _*_, _<_, _≤_}
+use Prim.Native.Nat.{ℕ, _*_, _<_, _≤_}
 use mathlib.Core.Bool.{Bool, true, false, false≢true}
 use mathlib.Core.List.{List}
 use mathlib.Core.Path.{_≡_, refl, sym, _∙_}
 use native.Mathlib.Omega.{arith}
-use borrow.Author.Tests.{leb-true, le-leb, lt-ltb, eqb-false, ne-eqb}
+use borrow.Author.Tests.{leb-true, eqb-false, ne-eqb}
 use lib.Dec.{leb}
-use Rattle.graph.specs.Range.{if}
 use Rattle.graph.specs.Graph.{Graph}
 use Rattle.graph.specs.Linkage.{Settled}
 use Rattle.graph.specs.Cover.{joined, need}
-use Rattle.graph.proofs.Tests.{and-left, and-right, and-both, if-some}
-use Rattle.graph.proofs.Sums.{sum-some}
+use Rattle.graph.proofs.Tests.{and-left, and-right, and-both}
 use Rattle.graph.proofs.Exists.{nonempty}
 use Rattle.graph.proofs.Cover.{settled-dense}
 use Rattle.network.proofs.Accepted.{or-fails}
 use Rattle.peeling.specs.declared.Peel.{Peel}
 use Rattle.peeling.specs.declared.Rise.{Rise}
-use Rattle.peeling.specs.declared.Rise.the-variants.{Targets, Sources, Both}
 use Rattle.peeling.specs.Peeling.{degreeOf, needOf, left, Tabled, Peeling, emptied}
 use Rattle.peeling.specs.Climbs.{ofSources, ofTargets, asked, Reached, rising, rests, Some, Least}
 use Rattle.peeling.proofs.Finished.{left-both, finished-degree}
-use Rattle.peeling.proofs.Asks.{asked-rising, asked-still}
+use Rattle.peeling.proofs.Asks.{rising-some, asked-rising, asked-still}
 
 -- a side is empty by the test, or neither is
 pub sides-some : (s : Peel) → emptied s ≡ false → (1 ≤ s .sources) × (1 ≤ s .targets)
@@ -46,19 +43,8 @@ module _ {n m : ℕ} (rise : Rise) (fixed k : ℕ) {w : List ℕ} {s : Peel}
   -- where somebody is left on both sides, a place that rises is
   pub rests-some : (1 ≤ s .sources) → (1 ≤ s .targets) → Some (rests (asked n m rise fixed k) rise w) (2 * n)
   rests-some a b =
-      let (p, l, r, h) = pick rise in
+      let (p, l, r, h) = rising-some n rise (left n m w s) (rw (e .counts .sources) at a) (rw (e .counts .targets) at b) in
       record { number = p; below = l; passes = and-both r (left-enough p l h) }
-    where
-      source : (u : ℕ) × (u < n) × (left n m w s u ≡ true)
-      source = let (u, l, h) = sum-some (λ u. if (left n m w s u) 1) n (rw (e .counts .sources) at a) in (u, l, if-some _ 1 h .0)
-
-      target : (v : ℕ) × (v < n) × (left n m w s (n + v) ≡ true)
-      target = let (v, l, h) = sum-some (λ v. if (left n m w s (n + v)) 1) n (rw (e .counts .targets) at b) in (v, l, if-some _ 1 h .0)
-
-      pick : (rise : Rise) → (p : ℕ) × (p < 2 * n) × (rising n rise p ≡ true) × (left n m w s p ≡ true)
-      pick Targets = let (v, l, h) = target in (n + v, omega arith, le-leb n (n + v) (omega arith), h)
-      pick Sources = let (u, l, h) = source in (u, omega arith, lt-ltb u n l, h)
-      pick Both = let (u, l, h) = source in (u, omega arith, refl, h)
 
   module _ {r : ℕ} (least : Least (rests (asked n m rise fixed k) rise w) (degreeOf n m w) (2 * n) r) where
     -- the least degree of such places is what they need, or more

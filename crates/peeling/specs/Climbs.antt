@@ -9,7 +9,7 @@ use Rattle.graph.specs.Core.{Nonempty, Level, LevelAcross, EqualLevel}
 use Rattle.peeling.specs.declared.Scope.{Scope}
 use Rattle.peeling.specs.declared.Rise.{Rise}
 use Rattle.peeling.specs.declared.Rise.the-variants.{Targets, Sources, Both}
-use Rattle.peeling.specs.Peeling.{Tabled, Kept, degreeOf, needOf}
+use Rattle.peeling.specs.Peeling.{Tabled, Kept, rowLength, degreeOf, needOf}
 
 -- what is asked of a source at k
 abbrev pub ofSources : Rise → ℕ → ℕ → ℕ
@@ -42,6 +42,10 @@ abbrev pub rising : ℕ → Rise → Group
 rising n Targets p = leb n p
 rising n Sources p = ltb p n
 rising n Both p = true
+
+-- none of them has a row of more than k entries
+pub record NoLonger (n : ℕ) (rise : Rise) (w : List ℕ) (k : ℕ) : Type 0 where
+  pub all : (p : ℕ) → p < 2 * n → rising n rise p ≡ true → rowLength w p ≤ k
 
 -- those of them that have the edges they need
 abbrev pub rests : Scope → Rise → List ℕ → Group

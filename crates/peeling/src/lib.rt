@@ -1,6 +1,7 @@
 // Cores and levels: the peel on the lent work table.
 mod climbs;
 mod groups;
+mod lengths;
 mod peels;
 
 // How far a peel has come: head and tail of the queue of places that are short, and how many places of each side are not in it.
@@ -28,3 +29,4 @@ pub enum Rise {
 
 pub use climbs::climb;
 pub use groups::core_in;
+pub use lengths::longest_row;
