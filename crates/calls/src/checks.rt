@@ -6,6 +6,7 @@ use network::Side;
 use network::end_at;
 use network::u16_at;
 use network::wide16;
+use ordering::count_up;
 use ordering::order;
 ghost use mathlib.Core.Path.{_≡_};
 ghost use mathlib.Core.Bool.{true, false, cond, _&&_};
@@ -14,7 +15,7 @@ ghost use lib.Dec.{ltb};
 ghost use lib.ListN.{length, getD};
 ghost use Rattle.graph.specs.Graph.{Closed};
 ghost use Rattle.graph.specs.Order.{Sorted, precedes};
-ghost use Rattle.network.specs.File.{graphOf, marked, outside, same, repeat, at, fileRefusal};
+ghost use Rattle.network.specs.File.{graphOf, marked, outside, same, repeat, at, none, fileRefusal};
 ghost use Rattle.network.specs.Sides.{Sound};
 ghost use Rattle.network.specs.Checks.{Header, HeaderNumber, CheckCall, ascends};
 ghost use Rattle.ordering.specs.Ascents.{Ascending};
@@ -183,14 +184,16 @@ fn least_repeat(file: &[u8], order: &[u16]) -> usize
     least
 }
 
-// The first edge that repeats an earlier one, or m.
-fn first_repeat(file: &[u8]) -> usize
+// The first edge that repeats an earlier one, or m. The order that shows it is left for the caller.
+fn first_repeat(file: &[u8], sorted: &mut [u16]) -> usize
     requires { ⌜ Sound (now file) ⌝ }
+    requires { ⌜ graphOf (now file) .size ≤ length (now sorted) ⌝ }
     ensures { λ r. ⌜ r ≡ repeat (graphOf (now (file .entry))) ⌝ }
+    ensures { λ _. ⌜ Sorted (precedes (graphOf (now (file .entry)))) (graphOf (now (file .entry)) .size) (now (sorted .exit)) ⌝ }
+    ensures { λ _. ⌜ length (now (sorted .exit)) ≡ length (now (sorted .entry)) ⌝ }
 {
-    let mut sorted = [0u16; 8192];
-    order(file, Side::Source, &mut sorted);
-    least_repeat(file, &sorted)
+    order(file, Side::Source, sorted);
+    least_repeat(file, sorted)
 }
 
 // A refusal, or none, of a file that is not known to ascend.
@@ -207,10 +210,14 @@ fn unordered(number: u16, link: usize) -> FileState
     }
 }
 
-// The refusal that the file's own bytes give, and whether its edges ascend as they stand.
-pub fn file_state(file: &[u8]) -> FileState
+// The refusal that the file's own bytes give, and whether its edges ascend as they stand. Where it gives none and they do not, they had to be
+// sorted, and `sorted` holds their order.
+pub fn file_state(file: &[u8], sorted: &mut [u16]) -> FileState
+    requires { ⌜ 8192 ≤ length (now sorted) ⌝ }
     ensures { λ r. ⌜ r .refusal ≡ fileRefusal (now (file .entry)) ⌝ }
     ensures { λ r. ⌜ (r .ascending ≡ true → Ascending (graphOf (now (file .entry)))) ⌝ }
+    ensures { λ r. ⌜ (r .refusal ≡ none → r .ascending ≡ false → Sorted (precedes (graphOf (now (file .entry)))) (graphOf (now (file .entry)) .size) (now (sorted .exit))) ⌝ }
+    ensures { λ _. ⌜ length (now (sorted .exit)) ≡ length (now (sorted .entry)) ⌝ }
 {
     let number = header_number(file);
     if number != 0 {
@@ -227,7 +234,7 @@ pub fn file_state(file: &[u8]) -> FileState
             ascending: true,
         };
     }
-    let repeat = first_repeat(file);
+    let repeat = first_repeat(file, sorted);
     if repeat < size {
         return unordered(8, repeat);
     }
@@ -238,7 +245,26 @@ pub fn file_state(file: &[u8]) -> FileState
 pub fn file_refusal(file: &[u8]) -> Refusal
     ensures { λ r. ⌜ r ≡ fileRefusal (now (file .entry)) ⌝ }
 {
-    file_state(file).refusal
+    let mut sorted = [0u16; 8192];
+    file_state(file, &mut sorted).refusal
+}
+
+// The same refusal, and where it is none the edges in order, for the calls that need them so: edges that ascend are in order by their numbers.
+pub fn refusal_with_order(file: &[u8], sorted: &mut [u16]) -> Refusal
+    requires { ⌜ 8192 ≤ length (now sorted) ⌝ }
+    ensures { λ r. ⌜ r ≡ fileRefusal (now (file .entry)) ⌝ }
+    ensures { λ r. ⌜ (r ≡ none → Sorted (precedes (graphOf (now (file .entry)))) (graphOf (now (file .entry)) .size) (now (sorted .exit))) ⌝ }
+    ensures { λ _. ⌜ length (now (sorted .exit)) ≡ length (now (sorted .entry)) ⌝ }
+{
+    let state = file_state(file, sorted);
+    let refusal = state.refusal;
+    if refusal.number != 0 {
+        return refusal;
+    }
+    if state.ascending {
+        count_up(u16_at(file, 7), sorted);
+    }
+    refusal
 }
 
 // 01: the check of a file.

@@ -13,6 +13,6 @@ pub struct FileState {
 
 pub use checks::check;
 pub use checks::file_refusal;
-pub use checks::file_state;
+pub use checks::refusal_with_order;
 pub use counts::count;
 pub use writes::write;

@@ -6,7 +6,6 @@ use network::WriteAnswer;
 use network::end_at;
 use network::u16_at;
 use network::wide16;
-use ordering::order;
 ghost use mathlib.Core.List.{[], _∷_};
 ghost use mathlib.Core.Path.{_≡_};
 ghost use Prim.Native.Nat.{ℕ, _+_, _*_, _<_, _≤_};
@@ -71,16 +70,15 @@ fn put_edges(file: &[u8], order: &[u16], out: &mut [u8])
     }
 }
 
-// The file written in order.
-fn put_file(file: &[u8], out: &mut [u8])
+// The file written in the order given.
+fn put_file(file: &[u8], order: &[u16], out: &mut [u8])
     requires { ⌜ Sound (now file) ⌝ }
-    requires { ⌜ 9 + 4 * graphOf (now file) .size ≤ length (now out) ⌝ }
+    requires { ⌜ (graphOf (now file) .size ≤ length (now order)) × (9 + 4 * graphOf (now file) .size ≤ length (now out)) ⌝ }
+    requires { ⌜ Sorted (precedes (graphOf (now file))) (graphOf (now file) .size) (now order) ⌝ }
     ensures { λ _. ⌜ now (out .exit) ≡ sets (now (out .entry)) 0 (written (graphOf (now (file .entry)))) ⌝ }
 {
-    let mut sorted = [0u16; 8192];
-    order(file, Side::Source, &mut sorted);
     put_header(file, out);
-    put_edges(file, &sorted, out);
+    put_edges(file, order, out);
 }
 
 // The file as it stands.
@@ -93,11 +91,12 @@ fn copy(file: &[u8], out: &mut [u8])
     }
 }
 
-// 01: the writer. A file whose edges ascend is the written file itself.
+// 01: the writer. A file whose edges ascend is the written file itself; any other is written by the order that the check left.
 pub fn write(file: &[u8], out: &mut [u8]) -> WriteAnswer
     ensures { λ r. ⌜ WriteCall (now (file .entry)) (now (out .entry)) (now (out .exit)) r ⌝ }
 {
-    let state = file_state(file);
+    let mut sorted = [0u16; 8192];
+    let state = file_state(file, &mut sorted);
     let refusal = state.refusal;
     if refusal.number != 0 {
         return WriteAnswer::Refused(refusal);
@@ -110,6 +109,6 @@ pub fn write(file: &[u8], out: &mut [u8]) -> WriteAnswer
         copy(file, out);
         return WriteAnswer::Written { size };
     }
-    put_file(file, out);
+    put_file(file, &sorted, out);
     WriteAnswer::Written { size }
 }

@@ -1,4 +1,4 @@
--- `first_repeat` puts the edges in order, which shows the repeats.
+-- `first_repeat` puts the edges in order, which shows the repeats, and leaves them so.
 use native.Mathlib.Omega.{arith}
 use borrow.Author.Needs.{needs}
 use Rattle.calls.proofs.checks.first_repeat.Statement.{statement}
@@ -8,29 +8,20 @@ use Rattle.calls.proofs.checks.first_repeat.Lts as lts
 use Rattle.calls.proofs.checks.least_repeat.Reads as least-repeat-reads
 use Rattle.ordering.proofs.order.Reads as order-reads
 
-slice-aggregate-order : tie.Need-slice-aggregate-order
-slice-aggregate-order c = search needs
-
 order-requires : tie.Need-order-requires
 order-requires c κs = search needs
 
-slice-aggregate-least-repeat : tie.Need-slice-aggregate-least-repeat
-slice-aggregate-least-repeat c = search needs
-
 least-repeat-requires : tie.Need-least-repeat-requires
 least-repeat-requires c κs =
-    let p = c .before .before .before .before .before .pre in
-    (p, (omega (arith, p .size-most, c .before .before .order .ensures .1), c .before .before .order .ensures .0))
+    let p = c .before .before .before .before .before .before .before .pre in
+    let order = c .before .before .before .order .ensures in
+    (p .0, (omega (arith, p .1, order .1), order .0))
+
+same-length : tie.Need-same-length
+same-length c = search needs
 
 returns : tie.Need-returns
 returns c = search needs
 
 pub first-repeat-spec : {M : Type 1} → statement M
-first-repeat-spec =
-    tie.close
-    (tie.spec
-    slice-aggregate-order
-    order-requires
-    slice-aggregate-least-repeat
-    least-repeat-requires
-    returns)
+first-repeat-spec = tie.close (tie.spec order-requires least-repeat-requires same-length returns)

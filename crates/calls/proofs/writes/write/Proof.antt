@@ -1,4 +1,5 @@
--- `write` refuses by the file, then by a short output; else it stores the file where its edges ascend, and where not the ordered file.
+-- `write` refuses by the file, then by a short output; else it stores the file where its edges ascend, and where not the file in the order that
+-- the check left.
 use Prim.Native.Nat.{ℕ, _<_, _≤_}
 use mathlib.Core.Path.{_≡_, sym, ap, _∙_}
 use native.Mathlib.Omega.{arith}
@@ -21,22 +22,25 @@ use Rattle.calls.proofs.writes.copy.Reads as copy-reads
 use Rattle.calls.proofs.writes.put_file.Reads as put-file-reads
 use Rattle.network.proofs.u16_at.Reads as u16-at-reads
 
+slice-aggregate-file-state : tie.Need-slice-aggregate-file-state
+slice-aggregate-file-state c = search needs
+
 file-state-requires : tie.Need-file-state-requires
 file-state-requires c κs = search needs
 
 returns : tie.Need-returns
 returns c =
-    let a = c .before .before .before .before .before .before .args in
-    let e = c .before .before .before .file-state .ensures .0 in
+    let a = c .before .before .before .before .before .before .before .before .args in
+    let e = c .before .before .before .before .file-state .ensures .0 in
     write-refused (e ∙ write-file (a .file .now) (length (a .out .now)) (λ z. c .if1 .taken (ap (λ r. r .number) e ∙ z))) (c .if1 .taken)
 
 -- the function's entry
 abbrev start : tie.Else1 → tie.Start
-start c = c .before .before .before .before .before .before
+start c = c .before .before .before .before .before .before .before .before
 
 -- there is no refusal,
 gives-none : (c : tie.Else1) → fileRefusal (start c .args .file .now) ≡ none
-gives-none c = found-none _ (c .before .before .before .file-state .ensures .0) (c .if1 .left)
+gives-none c = found-none _ (c .before .before .before .before .file-state .ensures .0) (c .if1 .left)
 
 -- so the file is accepted,
 accept : (c : tie.Else1) → Accepted (start c .args .file .now)
@@ -72,26 +76,34 @@ same-length c = search needs
 
 -- what is in the file is bytes
 bytes : (c : tie.Else1) (i : ℕ) → getD (start c .args .file .now) i 0 < 256
-bytes c i = omega (arith, c .before .before .before .before .before .shared-slice-known .given i)
+bytes c i = omega (arith, c .before .before .before .before .before .before .before .shared-slice-known .given i)
 
 returns-3 : tie.Need-returns-3
 returns-3 c =
     let t = c .before .before .before .before in
     let d = t .before in
     let b = d .before .before in
-    let itself = written-itself (start b .args .file .now) (bytes b) (accept b) (b .before .before .before .file-state .ensures .1 (t .if3 .taken)) in
+    let itself = written-itself (start b .args .file .now) (bytes b) (accept b) (b .before .before .before .before .file-state .ensures .1 .0 (t .if3 .taken)) in
     write-accepted (write-none (start b .args .file .now) _ (gives-none b) (long d)) (d .before .u16-at .ensures .0) (long d)
     (c .before .before .copy .ensures ∙ ap (sets (start b .args .out .now) 0) (sym itself))
 
+slice-aggregate-put-file : tie.Need-slice-aggregate-put-file
+slice-aggregate-put-file c = search needs
+
 put-file-requires : tie.Need-put-file-requires
-put-file-requires c κs = let d = c .before .before in (sound (d .before .before), long d)
+put-file-requires c κs =
+    let t = c .before .before in
+    let d = t .before in
+    let b = d .before .before in
+    let e = b .before .before .before .before .file-state .ensures in
+    (sound b, ((omega (arith, sound b .size-most, e .1 .1 .1), long d), e .1 .1 .0 (e .0 ∙ gives-none b) (t .if3 .left)))
 
 same-length-2 : tie.Need-same-length-2
 same-length-2 c = search needs
 
 returns-4 : tie.Need-returns-4
 returns-4 c =
-    let d = c .before .before .before .before .before in
+    let d = c .before .before .before .before .before .before in
     let b = d .before .before in
     write-accepted (write-none (start b .args .file .now) _ (gives-none b) (long d)) (d .before .u16-at .ensures .0) (long d) (c .before .before .put-file .ensures)
 
@@ -99,6 +111,7 @@ pub write-spec : {M : Type 1} → statement M
 write-spec =
     tie.close
     (tie.spec
+    slice-aggregate-file-state
     file-state-requires
     returns
     u16-at-requires
@@ -108,6 +121,7 @@ write-spec =
     copy-requires
     same-length
     returns-3
+    slice-aggregate-put-file
     put-file-requires
     same-length-2
     returns-4)
