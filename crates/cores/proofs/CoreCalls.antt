@@ -67,6 +67,10 @@ module _ (f : List ℕ) (s t w : ℕ) where
     unfolding coreRefusal
     core-none p q l = orElse-second _ e ∙ rw (le-ltb s (graphOf f .order) p, le-ltb t (graphOf f .order) q, le-ltb w (workLength (graphOf f)) l)
 
+-- a call that is refused by 9 promises no order of the edges
+pub nine-some : {P : Type 0} → plain 9 ≡ none → P
+nine-some h = absurd (refusal-some {r = plain 9} (omega arith) h)
+
 -- what an accepted core call has
 pub record CoreReady (f : List ℕ) (s t w : ℕ) : Type 0 where
   pub sound : Sound f

@@ -3,7 +3,6 @@ use adjacency::lay_rows;
 use network::Side;
 use network::u16_at;
 use ordering::fill_starts;
-use ordering::order;
 use ordering::turn;
 ghost use mathlib.Core.Path.{_≡_};
 ghost use Prim.Native.Nat.{ℕ, _+_, _*_, _<_, _≤_};
@@ -61,25 +60,27 @@ fn fill_place_starts(file: &[u8], starts: &mut [u16])
     fill_in_starts(file, &mut starts[order..end]);
 }
 
-// The rows of all places: the edges are sorted once, by source, and turned from there.
-fn fill_place_rows(file: &[u8], rows: &mut [u16])
+// The rows of all places, from the edges by source: one pass turns them.
+fn fill_place_rows(file: &[u8], by_source: &[u16], rows: &mut [u16])
     requires { ⌜ Sound (now file) ⌝ }
+    requires { ⌜ graphOf (now file) .size ≤ length (now «by_source») ⌝ }
+    requires { ⌜ Sorted (precedes (graphOf (now file))) (graphOf (now file) .size) (now «by_source») ⌝ }
     requires { ⌜ length (now rows) ≡ 2 * graphOf (now file) .size ⌝ }
     ensures { λ _. ⌜ now (rows .exit) ≡ placeRows (graphOf (now (file .entry))) ⌝ }
 {
     let middle = u16_at(file, 7);
     let end = 2 * middle;
-    let mut by_source = [0u16; 8192];
     let mut by_target = [0u16; 8192];
-    order(file, Side::Source, &mut by_source);
-    turn(file, &by_source, &mut by_target);
-    fill_out_rows(file, &by_source, &mut rows[0..middle]);
+    turn(file, by_source, &mut by_target);
+    fill_out_rows(file, by_source, &mut rows[0..middle]);
     lay_rows(file, Side::Target, &by_target, &mut rows[middle..end]);
 }
 
-// The graph of places in the first entries of the work table.
-pub fn index_places(file: &[u8], work: &mut [u16])
+// The graph of places in the first entries of the work table, from the edges by source that the check left.
+pub fn index_places(file: &[u8], by_source: &[u16], work: &mut [u16])
     requires { ⌜ Sound (now file) ⌝ }
+    requires { ⌜ graphOf (now file) .size ≤ length (now «by_source») ⌝ }
+    requires { ⌜ Sorted (precedes (graphOf (now file))) (graphOf (now file) .size) (now «by_source») ⌝ }
     requires { ⌜ workLength (graphOf (now file)) ≤ length (now work) ⌝ }
     ensures { λ _. ⌜ Places (graphOf (now (file .entry))) (now (work .exit)) ⌝ }
     ensures { λ _. ⌜ length (now (work .exit)) ≡ length (now (work .entry)) ⌝ }
@@ -88,5 +89,5 @@ pub fn index_places(file: &[u8], work: &mut [u16])
     let rows = 2 * u16_at(file, 5) + 1;
     let end = rows + 2 * u16_at(file, 7);
     fill_place_starts(file, &mut work[0..rows]);
-    fill_place_rows(file, &mut work[rows..end]);
+    fill_place_rows(file, by_source, &mut work[rows..end]);
 }

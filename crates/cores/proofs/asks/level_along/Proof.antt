@@ -14,45 +14,57 @@ use Rattle.cores.proofs.asks.equal_refusal.Reads as equal-refusal-reads
 use Rattle.cores.proofs.asks.level_of.Reads as level-of-reads
 use Rattle.network.proofs.wide16.Reads as wide16-reads
 
+slice-aggregate-equal-refusal : tie.Need-slice-aggregate-equal-refusal
+slice-aggregate-equal-refusal c = search needs
+
 equal-refusal-requires : tie.Need-equal-refusal-requires
 equal-refusal-requires c κs = search needs
 
 returns : tie.Need-returns
 returns c =
-    let a = c .before .before .before .before .before .args in
-    let e = c .before .before .equal-refusal .ensures in
+    let a = c .before .before .before .before .before .before .before .args in
+    let e = c .before .before .before .equal-refusal .ensures .0 in
     level-refused (e ∙ level-equal (a .file .now) (length (a .work .now)) (a .fixed) (λ z. c .if1 .taken (ap (λ r. r .number) e ∙ z))) (c .if1 .taken)
 
 -- the function's entry
 abbrev start : tie.Else1 → tie.Start
-start c = c .before .before .before .before .before
+start c = c .before .before .before .before .before .before .before
 
 -- the equal level is not refused
 gives-none : (c : tie.Else1) → equalLevelRefusal (start c .args .file .now) (length (start c .args .work .now)) ≡ none
-gives-none c = equal-proper _ _ .number-none (ap (λ r. r .number) (sym (c .before .before .equal-refusal .ensures)) ∙ c .if1 .left)
+gives-none c = equal-proper _ _ .number-none (ap (λ r. r .number) (sym (c .before .before .before .equal-refusal .ensures .0)) ∙ c .if1 .left)
 
 returns-2 : tie.Need-returns-2
 returns-2 c = level-refused (level-zero _ _ _ (gives-none (c .before)) (c .if2 .taken)) (omega arith)
+
+slice-aggregate-level-of : tie.Need-slice-aggregate-level-of
+slice-aggregate-level-of c = search needs
 
 wide16-requires : tie.Need-wide16-requires
 wide16-requires c κs = search needs
 
 level-of-requires : tie.Need-level-of-requires
-level-of-requires c κs = equal-ready _ _ (gives-none (c .before .before .before))
+level-of-requires c κs =
+    let b = c .before .before .before .before in
+    let e = b .before .before .before .equal-refusal .ensures in
+    let (sound, long) = equal-ready _ _ (gives-none b) in
+    (sound, (omega (arith, sound .size-most, e .1 .1), (e .1 .0 (e .0 ∙ gives-none b), long)))
 
 same-length : tie.Need-same-length
 same-length c = search needs
 
 returns-3 : tie.Need-returns-3
-returns-3 c = level-done (level-none _ _ _ (gives-none (c .before .before .before .before .before .before)) (c .before .before .before .before .before .if2 .left)) (rw (c .before .before .before .before .wide16 .ensures .0) at (c .before .before .level-of .ensures))
+returns-3 c = level-done (level-none _ _ _ (gives-none (c .before .before .before .before .before .before .before)) (c .before .before .before .before .before .before .if2 .left)) (rw (c .before .before .before .before .wide16 .ensures .0) at (c .before .before .level-of .ensures))
 
 pub level-along-spec : {M : Type 1} → statement M
 level-along-spec =
     tie.close
     (tie.spec
+    slice-aggregate-equal-refusal
     equal-refusal-requires
     returns
     returns-2
+    slice-aggregate-level-of
     wide16-requires
     level-of-requires
     same-length

@@ -24,10 +24,10 @@ u16-at-requires-2 c κs = search needs
 
 -- the function's entry
 abbrev start : tie.After-u16-at2 → tie.Start
-start c = c .before .before .before .before .before .before .before .before .before
+start c = c .before .before .before .before .before .before .before .before .before .before
 
 -- the table holds the network of the file
-tabled : (c : tie.After-u16-at2) → Tabled (graphOf (start c .args .file .now)) (c .before .u16-at .result) (c .u16-at2 .result) (c .before .before .before .before .before .index-places .last .1 .0)
+tabled : (c : tie.After-u16-at2) → Tabled (graphOf (start c .args .file .now)) (c .before .u16-at .result) (c .u16-at2 .result) (c .before .before .before .before .before .index-places .last .1 .1 .0)
 tabled c = file-tabled (start c .pre .0) (c .before .before .before .before .before .index-places .ensures .0) (c .before .u16-at .ensures .0) (c .u16-at2 .ensures .0)
 
 climb-requires : tie.Need-climb-requires
@@ -41,7 +41,7 @@ returns : tie.Need-returns
 returns c =
     let b = c .before .before .before in
     let p = b .before .before .before .before .before .index-places .ensures in
-    climb-levelled (tabled b) (work-kept (start b .args .file .now) (start b .args .work .now) (b .before .before .before .before .before .index-places .last .1 .0) (c .before .before .climb .last .0) (b .before .u16-at .ensures .0) (b .u16-at2 .ensures .0) (p .1 .0) (p .1 .1) (c .before .before .climb .ensures .kept))
+    climb-levelled (tabled b) (work-kept (start b .args .file .now) (start b .args .work .now) (b .before .before .before .before .before .index-places .last .1 .1 .0) (c .before .before .climb .last .0) (b .before .u16-at .ensures .0) (b .u16-at2 .ensures .0) (p .1 .0) (p .1 .1) (c .before .before .climb .ensures .kept))
     (c .before .before .climb .ensures)
 
 pub level-of-spec : {M : Type 1} → statement M

@@ -1,4 +1,4 @@
--- `cores::places::fill_place_rows` meets its contract: the rows of the sources, and after them those of the targets.
+-- `cores::places::fill_place_rows` meets its contract: the rows of the sources, and after them, from the edges turned, those of the targets.
 use native.Mathlib.Omega.{arith}
 use Rattle.network.specs.File.{graphOf}
 use Rattle.cores.proofs.PlacesFilled.{rows-filled}
@@ -12,26 +12,13 @@ u16-at-requires c κs = search needs
 mul-end : tie.Need-mul-end
 mul-end c = search needs
 
-slice-aggregate-order : tie.Need-slice-aggregate-order
-slice-aggregate-order c = search needs
-
-order-requires : tie.Need-order-requires
-order-requires c κs = search needs
-
 slice-aggregate-turn : tie.Need-slice-aggregate-turn
 slice-aggregate-turn c = search needs
 
-slice-aggregate-turn-2 : tie.Need-slice-aggregate-turn-2
-slice-aggregate-turn-2 c = search needs
-
 turn-requires : tie.Need-turn-requires
 turn-requires c κs =
-    let p = c .before .before .before .before .before .before .before .before .pre in
-    let sorted = c .before .before .before .order .ensures in
-    (p .0, ((omega (arith, p .0 .size-most, sorted .1), p .0 .size-most), sorted .0))
-
-slice-aggregate-fill-out-rows : tie.Need-slice-aggregate-fill-out-rows
-slice-aggregate-fill-out-rows c = search needs
+    let p = c .before .before .before .before .before .pre in
+    (p .0, ((p .1 .0, p .0 .size-most), p .1 .1 .0))
 
 sub-fill-out-rows : tie.Need-sub-fill-out-rows
 sub-fill-out-rows c = search needs
@@ -44,9 +31,8 @@ part-fill-out-rows-end c = search needs
 
 fill-out-rows-requires : tie.Need-fill-out-rows-requires
 fill-out-rows-requires c κs =
-    let p = c .before .before .before .before .before .before .before .before .before .before .before .before .pre in
-    let sorted = c .before .before .before .before .before .before .before .order .ensures in
-    (p .0, ((omega (arith, p .0 .size-most, sorted .1), search needs), sorted .0))
+    let p = c .before .before .before .before .before .before .before .before .pre in
+    (p .0, ((p .1 .0, search needs), p .1 .1 .0))
 
 slice-aggregate-lay-rows : tie.Need-slice-aggregate-lay-rows
 slice-aggregate-lay-rows c = search needs
@@ -65,8 +51,8 @@ part-lay-rows-end c = search needs
 
 lay-rows-requires : tie.Need-lay-rows-requires
 lay-rows-requires c κs =
-    let p = c .before .before .before .before .before .before .before .before .before .before .before .before .before .before .before .before .before .pre in
-    let turned = c .before .before .before .before .before .before .before .before .turn .ensures in
+    let p = c .before .before .before .before .before .before .before .before .before .before .before .before .before .pre in
+    let turned = c .before .before .before .before .before .before .before .turn .ensures in
     (p .0, ((omega (arith, p .0 .size-most, turned .1), search needs), turned .0))
 
 same-length : tie.Need-same-length
@@ -74,9 +60,9 @@ same-length c = search needs
 
 returns : tie.Need-returns
 returns c =
-    let s = c .before .before .before .before .before .before .before .before .before .before .before .before .before .before .before .before .before .before .before .before in
-    rows-filled (graphOf (s .args .file .now)) (s .args .rows .now) _ _ _ (c .before .before .before .before .before .before .before .before .before .before .before .before .before .before .before .before .before .u16-at .ensures .0)
-    (s .pre .1) (c .before .before .before .before .before .before .before .fill-out-rows .ensures) (c .before .before .lay-rows .ensures)
+    let s = c .before .before .before .before .before .before .before .before .before .before .before .before .before .before .before .before in
+    rows-filled (graphOf (s .args .file .now)) (s .args .rows .now) _ _ _ (c .before .before .before .before .before .before .before .before .before .before .before .before .u16-at .ensures .0)
+    (s .pre .1 .1 .1) (c .before .before .before .before .before .before .before .fill-out-rows .ensures) (c .before .before .lay-rows .ensures)
 
 pub fill-place-rows-spec : {M : Type 1} → statement M
 fill-place-rows-spec =
@@ -84,12 +70,8 @@ fill-place-rows-spec =
     (tie.spec
     u16-at-requires
     mul-end
-    slice-aggregate-order
-    order-requires
     slice-aggregate-turn
-    slice-aggregate-turn-2
     turn-requires
-    slice-aggregate-fill-out-rows
     sub-fill-out-rows
     part-fill-out-rows-start
     part-fill-out-rows-end

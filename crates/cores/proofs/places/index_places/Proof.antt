@@ -48,17 +48,19 @@ part-fill-place-rows-end : tie.Need-part-fill-place-rows-end
 part-fill-place-rows-end c = search needs
 
 fill-place-rows-requires : tie.Need-fill-place-rows-requires
-fill-place-rows-requires c κs = search needs
+fill-place-rows-requires c κs =
+    let p = c .before .before .before .before .before .before .before .before .before .before .pre in
+    (p .0, (p .1 .0, (p .1 .1 .0, search needs)))
 
 same-length : tie.Need-same-length
 same-length c = search needs
 
 returns : tie.Need-returns
 returns c =
-    let s = c .before .before .before .before .before .before .before .before .before .before .before .before in
+    let s = c .before .before .before .before .before .before .before .before .before .before .before .before .before in
     let order = c .before .before .before .before .before .before .before .before .before .u16-at in
     let size = c .before .before .before .before .before .before .before .before .u16-at2 in
-    filled-work (s .pre .0 .closed) (s .args .work .now) (s .pre .1)
+    filled-work (s .pre .0 .closed) (s .args .work .now) (s .pre .1 .1 .1)
     (work-filled (graphOf (s .args .file .now)) (s .args .work .now) _ _ _ _ (order .ensures .0) (size .ensures .0)
     (c .before .before .before .before .before .before .fill-place-starts .ensures) (c .before .before .fill-place-rows .ensures))
 
