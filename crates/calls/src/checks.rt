@@ -9,6 +9,7 @@ use network::wide16;
 use ordering::count_up;
 use ordering::order;
 ghost use mathlib.Core.Path.{_≡_};
+ghost use mathlib.Core.Logic.{_≢_};
 ghost use mathlib.Core.Bool.{true, false, cond, _&&_};
 ghost use Prim.Native.Nat.{ℕ, _+_, _*_, _<_, _≤_};
 ghost use lib.Dec.{ltb};
@@ -210,14 +211,12 @@ fn unordered(number: u16, link: usize) -> FileState
     }
 }
 
-// The refusal that the file's own bytes give, and whether its edges ascend as they stand. Where it gives none and they do not, they had to be
-// sorted, and `sorted` holds their order.
-pub fn file_state(file: &[u8], sorted: &mut [u16]) -> FileState
-    requires { ⌜ 8192 ≤ length (now sorted) ⌝ }
-    ensures { λ r. ⌜ r .refusal ≡ fileRefusal (now (file .entry)) ⌝ }
-    ensures { λ r. ⌜ (r .ascending ≡ true → Ascending (graphOf (now (file .entry)))) ⌝ }
-    ensures { λ r. ⌜ (r .refusal ≡ none → r .ascending ≡ false → Sorted (precedes (graphOf (now (file .entry)))) (graphOf (now (file .entry)) .size) (now (sorted .exit))) ⌝ }
-    ensures { λ _. ⌜ length (now (sorted .exit)) ≡ length (now (sorted .entry)) ⌝ }
+// What can be told without an order: a refusal by 1 to 7, or that the edges ascend and so none repeats another. Else no edge is outside, and only 8
+// is left to be tested.
+fn front_state(file: &[u8]) -> FileState
+    ensures { λ r. ⌜ (r .refusal .number ≢ 0 → r .refusal ≡ fileRefusal (now (file .entry))) ⌝ }
+    ensures { λ r. ⌜ (r .ascending ≡ true → Ascending (graphOf (now (file .entry))) × (r .refusal ≡ fileRefusal (now (file .entry)))) ⌝ }
+    ensures { λ r. ⌜ (r .refusal .number ≡ 0 → Header (now (file .entry)) × (outside (graphOf (now (file .entry))) ≡ graphOf (now (file .entry)) .size)) ⌝ }
 {
     let number = header_number(file);
     if number != 0 {
@@ -234,19 +233,62 @@ pub fn file_state(file: &[u8], sorted: &mut [u16]) -> FileState
             ascending: true,
         };
     }
-    let repeat = first_repeat(file, sorted);
-    if repeat < size {
-        return unordered(8, repeat);
-    }
     unordered(0, 0)
 }
 
-// The refusal that the file's own bytes give. Every call on a file begins with it.
+// 8 or none, of a file that passes the other tests. The order that shows it is left for the caller.
+fn repeat_refusal(file: &[u8], sorted: &mut [u16]) -> Refusal
+    requires { ⌜ Header (now file) × (outside (graphOf (now file)) ≡ graphOf (now file) .size) ⌝ }
+    requires { ⌜ 8192 ≤ length (now sorted) ⌝ }
+    ensures { λ r. ⌜ r ≡ fileRefusal (now (file .entry)) ⌝ }
+    ensures { λ _. ⌜ Sorted (precedes (graphOf (now (file .entry)))) (graphOf (now (file .entry)) .size) (now (sorted .exit)) ⌝ }
+    ensures { λ _. ⌜ length (now (sorted .exit)) ≡ length (now (sorted .entry)) ⌝ }
+{
+    let repeat = first_repeat(file, sorted);
+    if repeat < u16_at(file, 7) {
+        return Refusal {
+            number: 8,
+            link: repeat as u16,
+        };
+    }
+    Refusal { number: 0, link: 0 }
+}
+
+// The refusal that the file's own bytes give, and whether its edges ascend as they stand. Where it gives none and they do not, they had to be
+// sorted, and `sorted` holds their order.
+pub fn file_state(file: &[u8], sorted: &mut [u16]) -> FileState
+    requires { ⌜ 8192 ≤ length (now sorted) ⌝ }
+    ensures { λ r. ⌜ r .refusal ≡ fileRefusal (now (file .entry)) ⌝ }
+    ensures { λ r. ⌜ (r .ascending ≡ true → Ascending (graphOf (now (file .entry)))) ⌝ }
+    ensures { λ r. ⌜ (r .refusal ≡ none → r .ascending ≡ false → Sorted (precedes (graphOf (now (file .entry)))) (graphOf (now (file .entry)) .size) (now (sorted .exit))) ⌝ }
+    ensures { λ _. ⌜ length (now (sorted .exit)) ≡ length (now (sorted .entry)) ⌝ }
+{
+    let state = front_state(file);
+    if state.refusal.number != 0 {
+        return state;
+    }
+    if state.ascending {
+        return state;
+    }
+    FileState {
+        refusal: repeat_refusal(file, sorted),
+        ..state
+    }
+}
+
+// The refusal that the file's own bytes give. Every call on a file begins with it. The table to sort in is made only where it is needed.
 pub fn file_refusal(file: &[u8]) -> Refusal
     ensures { λ r. ⌜ r ≡ fileRefusal (now (file .entry)) ⌝ }
 {
+    let state = front_state(file);
+    if state.refusal.number != 0 {
+        return state.refusal;
+    }
+    if state.ascending {
+        return state.refusal;
+    }
     let mut sorted = [0u16; 8192];
-    file_state(file, &mut sorted).refusal
+    repeat_refusal(file, &mut sorted)
 }
 
 // The same refusal, and where it is none the edges in order, for the calls that need them so: edges that ascend are in order by their numbers.

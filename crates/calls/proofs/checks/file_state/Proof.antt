@@ -1,148 +1,46 @@
--- `file_state` gives the header's number, else 7; else none where the edges ascend, and of other files 8 or none, which leaves their order.
-use Prim.Native.Nat.{ℕ}
-use mathlib.Core.Bool.{Bool, true, false, false≢true}
-use mathlib.Core.Logic.{_≢_}
-use mathlib.Core.Path.{_≡_, refl, sym, ap, _∙_}
-use native.Mathlib.Omega.{arith}
-use Rattle.graph.proofs.Ranges.{first-le}
-use Rattle.network.specs.declared.Refusal.{Refusal}
-use Rattle.network.specs.File.{graphOf, outside, at, none}
-use Rattle.network.specs.Checks.{Header}
-use Rattle.network.specs.Sides.{Sound}
-use Rattle.network.proofs.Accepted.{repeat-simple}
-use Rattle.network.proofs.Compare.{names-outside}
-use Rattle.network.proofs.Headers.{gives-7, gives-8, gives-0, header-sound}
-use Rattle.network.proofs.Repeats.{ascending-simple}
+-- `file_state` gives what can be told without an order, and of other files 8 or none, which leaves their order.
+use mathlib.Core.Bool.{true, false, false≢true}
+use mathlib.Core.Path.{_≡_, refl, sym, _∙_}
+use Rattle.network.proofs.Answers.{refusal-some}
 use borrow.Author.Needs.{needs}
 use Rattle.calls.proofs.checks.file_state.Statement.{statement}
 use Rattle.calls.proofs.checks.file_state.Tie as tie
 use Rattle.calls.proofs.checks.file_state.Reads as reads
 use Rattle.calls.proofs.checks.file_state.Lts as lts
-use Rattle.calls.proofs.checks.first_outside.Reads as first-outside-reads
-use Rattle.calls.proofs.checks.first_repeat.Reads as first-repeat-reads
-use Rattle.calls.proofs.checks.header_number.Reads as header-number-reads
-use Rattle.calls.proofs.checks.is_ascending.Reads as is-ascending-reads
-use Rattle.calls.proofs.checks.unordered.Reads as unordered-reads
-use Rattle.network.proofs.u16_at.Reads as u16-at-reads
+use Rattle.calls.proofs.checks.front_state.Reads as front-state-reads
+use Rattle.calls.proofs.checks.repeat_refusal.Reads as repeat-refusal-reads
 
-header-number-requires : tie.Need-header-number-requires
-header-number-requires c κs = search needs
-
-unordered-requires : tie.Need-unordered-requires
-unordered-requires c κs = search needs
-
--- what is not told to ascend promises nothing
-untold : {P : Type 0} {b : Bool} → b ≡ false → b ≡ true → P
-untold p h = absurd (false≢true (sym p ∙ h))
-
--- nor does a file that is refused
-refused : {P : Type 0} {r : Refusal} (k l : ℕ) → k ≢ 0 → r ≡ at k l → r ≡ none → P
-refused k l n p h = absurd (n (ap (λ t. t .number) (sym p ∙ h)))
+front-state-requires : tie.Need-front-state-requires
+front-state-requires c κs = search needs
 
 returns : tie.Need-returns
 returns c =
-    let u = c .unordered .ensures in (
-      u .0 ∙ sym (c .before .before .header-number .ensures .refused (c .before .if1 .taken)),
-      (untold (u .1), (λ h a. refused _ _ (c .before .if1 .taken) (u .0) h, refl)),
-    )
-
--- the header is in order
-header : (c : tie.Else1) → Header (c .before .before .before .before .args .file .now)
-header c = c .before .header-number .ensures .accepted (c .if1 .left)
-
-u16-at-requires : tie.Need-u16-at-requires
-u16-at-requires c κs = omega (arith, header c .long)
-
-first-outside-requires : tie.Need-first-outside-requires
-first-outside-requires c κs = header (c .before)
-
-unordered-requires-2 : tie.Need-unordered-requires-2
-unordered-requires-2 c κs = search needs
+    let e = c .before .before .front-state .ensures in
+    (e .0 (c .if1 .taken), ((λ h. e .1 .0 h .0), ((λ h a. absurd (refusal-some (c .if1 .taken) h)), refl)))
 
 returns-2 : tie.Need-returns-2
 returns-2 c =
-    let u = c .unordered2 .ensures in
-    let o = c .before .before in
-    let b = o .before in (
-      u .0 ∙ gives-7 (o .first-outside .result) (header (b .before)) (o .first-outside .ensures) (omega (arith, b .u16-at .ensures, c .before .if2 .taken)),
-      (untold (u .1), (λ h a. refused 7 _ (omega arith) (u .0) h, refl)),
-    )
+    let e = c .before .before .before .front-state .ensures in
+    (e .1 .0 (c .if2 .taken) .1, ((λ h. e .1 .0 h .0), ((λ h a. absurd (false≢true (sym a ∙ c .if2 .taken))), refl)))
 
--- no edge is outside,
-inside : (c : tie.Else2) → let g = graphOf (c .before .before .before .before .before .before .before .args .file .now) in outside g ≡ g .size
-inside c =
-    let b = c .before .before in
-    let g = graphOf (b .before .before .before .before .before .args .file .now) in
-    omega (arith, c .before .first-outside .ensures, b .u16-at .ensures, c .if2 .left, first-le (names-outside g) (g .size))
-
--- so every edge can be read
-sound : (c : tie.Else2) → Sound (c .before .before .before .before .before .before .before .args .file .now)
-sound c = header-sound (header (c .before .before .before)) (inside c)
-
-is-ascending-requires : tie.Need-is-ascending-requires
-is-ascending-requires c κs = sound c
-
-returns-3 : tie.Need-returns-3
-returns-3 c =
-    let d = c .before .before in
-    let b = d .before .before in
-    let g = graphOf (b .before .before .before .before .before .args .file .now) in
-    let ascending = c .before .is-ascending .ensures (c .if3 .taken) in
-    (gives-0 (header (b .before)) (inside d) (omega (arith, repeat-simple g .1 (ascending-simple g ascending))), ((λ h. ascending), (λ h a. untold a refl, refl)))
-
-first-repeat-requires : tie.Need-first-repeat-requires
-first-repeat-requires c κs =
-    let d = c .before .before .before in
-    (sound d, omega (arith, sound d .size-most, d .before .before .before .before .before .before .before .pre))
-
-unordered-requires-3 : tie.Need-unordered-requires-3
-unordered-requires-3 c κs = search needs
+repeat-refusal-requires : tie.Need-repeat-refusal-requires
+repeat-refusal-requires c κs = (c .before .before .before .before .front-state .ensures .1 .1 (c .before .before .if1 .left), c .before .before .before .before .before .before .before .pre)
 
 same-length : tie.Need-same-length
 same-length c = search needs
 
-returns-4 : tie.Need-returns-4
-returns-4 c =
-    let u = c .unordered3 .ensures in
-    let r = c .before .before .before .before in
-    let d = r .before .before .before .before in
-    let b = d .before .before in (
-      u .0 ∙ gives-8 (r .first-repeat .result) (header (b .before)) (inside d) (r .first-repeat .ensures .0) (omega (arith, b .u16-at .ensures, c .before .if4 .taken)),
-      (untold (u .1), (λ h a. refused 8 _ (omega arith) (u .0) h, r .first-repeat .ensures .1 .1)),
-    )
-
-unordered-requires-4 : tie.Need-unordered-requires-4
-unordered-requires-4 c κs = search needs
-
-same-length-2 : tie.Need-same-length-2
-same-length-2 c = search needs
-
-returns-5 : tie.Need-returns-5
-returns-5 c =
-    let u = c .unordered4 .ensures in
-    let r = c .before .before .before .before in
-    let d = r .before .before .before .before in
-    let b = d .before .before in
-    let (repeat, (sorted, long)) = r .first-repeat .ensures in
-    (u .0 ∙ gives-0 (header (b .before)) (inside d) (omega (arith, b .u16-at .ensures, repeat, c .before .if4 .left)), (untold (u .1), (λ h a. sorted, long)))
+returns-3 : tie.Need-returns-3
+returns-3 c =
+    let e = c .before .before .repeat-refusal .ensures in
+    (e .0, ((λ h. absurd (false≢true (sym (c .before .before .before .before .if2 .left) ∙ h))), ((λ h a. e .1 .0), e .1 .1)))
 
 pub file-state-spec : {M : Type 1} → statement M
 file-state-spec =
     tie.close
     (tie.spec
-    header-number-requires
-    unordered-requires
+    front-state-requires
     returns
-    u16-at-requires
-    first-outside-requires
-    unordered-requires-2
     returns-2
-    is-ascending-requires
-    returns-3
-    first-repeat-requires
-    unordered-requires-3
+    repeat-refusal-requires
     same-length
-    returns-4
-    unordered-requires-4
-    same-length-2
-    returns-5)
+    returns-3)
