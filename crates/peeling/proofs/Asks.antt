@@ -5,7 +5,7 @@ use mathlib.Core.Bool.{Bool, true, false, cond, false≢true}
 use mathlib.Core.Path.{_≡_, refl, sym}
 use native.Mathlib.Nat.{le-refl}
 use native.Mathlib.Omega.{arith}
-use borrow.Author.Tests.{leb-true, leb-false, le-leb, lt-ltb, le-ltb}
+use borrow.Author.Tests.{leb-true, leb-false, le-leb, lt-leb, lt-ltb, le-ltb}
 use lib.Dec.{ltb}
 use Rattle.graph.specs.Range.{sum, if}
 use Rattle.graph.specs.Graph.{Group}
@@ -14,7 +14,7 @@ use Rattle.graph.proofs.Sums.{sum-some}
 use Rattle.peeling.specs.declared.Rise.{Rise}
 use Rattle.peeling.specs.declared.Rise.the-variants.{Targets, Sources, Both}
 use Rattle.peeling.specs.Peeling.{needOf}
-use Rattle.peeling.specs.Climbs.{ofSources, ofTargets, asked, rising}
+use Rattle.peeling.specs.Climbs.{ofSources, ofTargets, asked, rising, firstRising, endRising}
 
 -- where R has somebody on both sides, a place of it rises
 pub rising-some : (n : ℕ) (rise : Rise) (R : Group) → 1 ≤ sum (λ u. if (R u) 1) n → 1 ≤ sum (λ v. if (R (n + v)) 1) n
@@ -31,6 +31,30 @@ rising-some n rise R a b = pick rise
     pick Targets = let (v, l, h) = target in (n + v, omega arith, le-leb n (n + v) (omega arith), h)
     pick Sources = let (u, l, h) = source in (u, omega arith, lt-ltb u n l, h)
     pick Both = let (u, l, h) = source in (u, omega arith, refl, h)
+
+-- the places that rise are within the 2n
+pub rising-range : (n : ℕ) (rise : Rise) → (firstRising n rise ≤ endRising n rise) × (endRising n rise ≤ 2 * n)
+rising-range n Targets = (omega arith, omega arith)
+rising-range n Sources = (omega arith, omega arith)
+rising-range n Both = (omega arith, omega arith)
+
+-- none rises before the first
+pub rising-before : (n : ℕ) (rise : Rise) (p : ℕ) → p < firstRising n rise → rising n rise p ≡ false
+rising-before n Targets p l = lt-leb n _ l
+rising-before n Sources p l = absurd (omega arith)
+rising-before n Both p l = absurd (omega arith)
+
+-- from there on all do up to the end
+pub rising-between : (n : ℕ) (rise : Rise) (p : ℕ) → firstRising n rise ≤ p → p < endRising n rise → rising n rise p ≡ true
+rising-between n Targets p l h = le-leb n _ l
+rising-between n Sources p l h = lt-ltb _ n h
+rising-between n Both p l h = refl
+
+-- and past it none does
+pub rising-past : (n : ℕ) (rise : Rise) (p : ℕ) → endRising n rise ≤ p → p < 2 * n → rising n rise p ≡ false
+rising-past n Targets p l h = absurd (omega arith)
+rising-past n Sources p l h = le-ltb _ n l
+rising-past n Both p l h = absurd (omega arith)
 
 -- a place that rises needs k
 pub asked-rising : (n m : ℕ) (rise : Rise) (fixed k p : ℕ) → rising n rise p ≡ true → needOf (asked n m rise fixed k) p ≡ k

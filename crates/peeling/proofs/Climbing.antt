@@ -11,10 +11,10 @@ use Rattle.graph.specs.Graph.{Graph}
 use Rattle.peeling.specs.declared.Peel.{Peel}
 use Rattle.peeling.specs.declared.Scope.{Scope}
 use Rattle.peeling.specs.declared.Rise.{Rise}
-use Rattle.peeling.specs.Peeling.{degreeOf, Tabled, Kept, Ended, emptied}
-use Rattle.peeling.specs.Climbs.{asked, Reached, rests, Some, Least, Climbed}
+use Rattle.peeling.specs.Peeling.{degreeOf, needOf, Tabled, Kept, Ended, emptied}
+use Rattle.peeling.specs.Climbs.{asked, Reached, rising, rests, Some, Least, Climbed}
 use Rattle.peeling.proofs.Kept.{kept-same, kept-next, tabled-kept, ended-from}
-use Rattle.peeling.proofs.Asks.{asked-sources, asked-targets}
+use Rattle.peeling.proofs.Asks.{asked-rising, asked-sources, asked-targets}
 use Rattle.peeling.proofs.Turns.{sides-some, rests-some, least-more, least-reached, emptied-stops}
 
 -- how far a climb has come that began at a table
@@ -39,6 +39,10 @@ module _ {n m : ℕ} {rise : Rise} {fixed start k : ℕ} {w w′ : List ℕ} {s 
   -- while neither side is empty, a place is left that rises
   pub climb-some : emptied s ≡ false → {c : Scope} → c ≡ asked n m rise fixed k → Some (rests c rise w′) (2 * c .order)
   climb-some z a = let (p, q) = sides-some s z in rw a (rests-some rise fixed k (o .ended .peeling) p q)
+
+  -- all that rise need k
+  pub climb-needs : {c : Scope} → c ≡ asked n m rise fixed k → (p : ℕ) → rising (c .order) rise p ≡ true → needOf c p ≡ k
+  climb-needs a = rw a (asked-rising n m rise fixed k)
 
   module _ {r : ℕ} {c : Scope} (a : c ≡ asked n m rise fixed k) (least : Least (rests c rise w′) (degreeOf (c .order) (c .size) w′) (2 * c .order) r) where
     -- k is at most the least degree of these

@@ -1,10 +1,9 @@
 -- The least of numbers below 65536 over those that pass a test, found one after the other.
 use Prim.Native.Nat.{ℕ, _+_, _<_, _≤_}
 use mathlib.Core.Bool.{Bool, true, false, cond, _&&_, false≢true}
-use mathlib.Core.Path.{_≡_, refl, sym, ap, _∙_}
-use native.Mathlib.Decide.{decLe}
+use mathlib.Core.Path.{_≡_, refl, sym, _∙_}
+use native.Mathlib.Decide.{decLe, decLt}
 use native.Mathlib.Nat.{le-refl}
-use native.Mathlib.Numerals.{add-one}
 use native.Mathlib.Omega.{arith}
 use borrow.Author.Count.{below-more}
 use borrow.Author.Tests.{ltb-true, le-leb, lt-ltb}
@@ -15,7 +14,7 @@ use Rattle.peeling.specs.Climbs.{Some, Least}
 
 -- k is the least over the numbers below i that pass, or 65536 where none does
 pub record Lowest (P : Group) (d : ℕ → ℕ) (i k : ℕ) : Type 0 where
-  pub small : (p : ℕ) → p < i → d p < 65536
+  pub small : (p : ℕ) → p < i → P p ≡ true → d p < 65536
   pub low : (p : ℕ) → p < i → P p ≡ true → k ≤ d p
   pub reached : k < 65536 → Some (λ p. P p && leb (d p) k) i
 
@@ -23,12 +22,25 @@ pub record Lowest (P : Group) (d : ℕ → ℕ) (i k : ℕ) : Type 0 where
 pub lowest-begins : (P : Group) (d : ℕ → ℕ) → Lowest P d 0 65536
 lowest-begins P d = record { small = λ p l. absurd (omega arith); low = λ p l. absurd (omega arith); reached = λ l. absurd (omega arith) }
 
+-- it is the same for a test that agrees below i, and further on where no number passes
+pub lowest-skips : {P Q : Group} {d : ℕ → ℕ} {i j k : ℕ} → i ≤ j → ((p : ℕ) → p < i → P p ≡ Q p) → ((p : ℕ) → i ≤ p → p < j → Q p ≡ false)
+    → Lowest P d i k → Lowest Q d j k
+lowest-skips {Q = Q} {i = i} {j} l same none o =
+    record {
+      small = λ p b h. o .small p (early p b h) (same p (early p b h) ∙ h);
+      low = λ p b h. o .low p (early p b h) (same p (early p b h) ∙ h);
+      reached = λ m. let s = o .reached m in record { number = s .number; below = omega (arith, s .below); passes = rw (same (s .number) (s .below)) at (s .passes) };
+    }
+  where
+    early : (p : ℕ) → p < j → Q p ≡ true → p < i
+    early p b h = elim (decLt p i) [ yes m ↦ m | no m ↦ absurd (false≢true (sym (none p (omega arith) b) ∙ h)) ]
+
 -- the next number counts where it passes and is less
 pub lowest-next : {P : Group} {d : ℕ → ℕ} {i k k′ : ℕ} → Lowest P d i k → d i < 65536 → k′ ≡ cond (P i && ltb (d i) k) (d i) k → Lowest P d (i + 1) k′
 lowest-next {P} {d} {i} {k} o l e = rw e (go (P i && ltb (d i) k) refl)
   where
-    all : (p : ℕ) → p < i + 1 → d p < 65536
-    all = below-more _ _ (o .small) l
+    all : (p : ℕ) → p < i + 1 → P p ≡ true → d p < 65536
+    all = below-more _ _ (o .small) (λ q. l)
 
     go : (b : Bool) → (P i && ltb (d i) k) ≡ b → Lowest P d (i + 1) (cond b (d i) k)
     go true h =
@@ -48,5 +60,5 @@ lowest-next {P} {d} {i} {k} o l e = rw e (go (P i && ltb (d i) k) refl)
 -- at the end it is the least, where some number passes
 pub lowest-ends : {P : Group} {d : ℕ → ℕ} {N k : ℕ} → Lowest P d N k → Some P N → Least P d N k × (k < 65536)
 lowest-ends {P} {d} {N} {k} o s =
-    let less : k < 65536 = omega (arith, o .low (s .number) (s .below) (s .passes), o .small (s .number) (s .below)) in
+    let less : k < 65536 = omega (arith, o .low (s .number) (s .below) (s .passes), o .small (s .number) (s .below) (s .passes)) in
     (record { low = o .low; reached = o .reached less }, less)

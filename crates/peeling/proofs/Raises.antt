@@ -2,7 +2,7 @@
 use Prim.Native.Nat.{ℕ, _+_, _*_, _<_, _≤_}
 use mathlib.Core.Bool.{Bool, true, false, cond}
 use mathlib.Core.List.{List}
-use mathlib.Core.Logic.{_≢_}
+use mathlib.Core.Logic.{_≢_, _⊎_, inl, inr}
 use mathlib.Core.Path.{_≡_, refl, sym, _∙_}
 use native.Mathlib.Decide.{ℕ-discrete, decLt}
 use native.Mathlib.Nat.{le-refl, ne-of-lt}
@@ -36,6 +36,16 @@ need-more n {x} {y} {x′} {y′} a b p = either (ltb p n)
     either true = a
     either false = b
 
+-- a side, which starts at 0 or at n, ends within the 2n places
+pub side-ends : {n first : ℕ} → (first ≡ 0) ⊎ (first ≡ n) → first + n ≤ 2 * n
+side-ends (inl e) = omega arith
+side-ends (inr e) = omega arith
+
+-- and all its places need the same
+pub need-side : (n x y : ℕ) {first p : ℕ} → (first ≡ 0) ⊎ (first ≡ n) → first ≤ p → p < first + n → need n x y p ≡ need n x y first
+need-side n x y {first} {p} (inl e) l h = rw (lt-ltb p n (omega arith), lt-ltb first n (omega arith))
+need-side n x y {first} {p} (inr e) l h = rw (le-ltb p n (omega arith), le-ltb first n (omega arith))
+
 -- before place i the new number is needed
 pub raised-new : (old new : ℕ → ℕ) {i p : ℕ} → p < i → raised old new i p ≡ new p
 raised-new old new l = rw (lt-ltb _ _ l)
@@ -51,6 +61,21 @@ raise-begins old new = peel-needs (λ p l. sym (raised-old old new (omega arith)
 -- and past all places by the new ones
 pub raise-ends : {n m : ℕ} (old new : ℕ → ℕ) {w : List ℕ} {s : Peel} (i : ℕ) → 2 * n ≤ i → Peeling n m (raised old new i) w s → Peeling n m new w s
 raise-ends old new i l = peel-needs (λ p b. raised-new old new (omega arith))
+
+-- places that need what they needed are passed over
+pub raise-skips : {n m : ℕ} (old new : ℕ → ℕ) {w : List ℕ} {s : Peel} {i j : ℕ} → i ≤ j → ((p : ℕ) → i ≤ p → p < j → old p ≡ new p)
+    → Peeling n m (raised old new i) w s → Peeling n m (raised old new j) w s
+raise-skips old new {i = i} {j} l e = peel-needs (λ p b. same p)
+  where
+    same : (p : ℕ) → raised old new i p ≡ raised old new j p
+    same p =
+        elim (decLt p i) [
+          | yes a ↦ raised-new old new a ∙ sym (raised-new old new {i = j} (omega arith))
+          | no a ↦ elim (decLt p j) [
+            | yes b ↦ raised-old old new {i = i} (omega arith) ∙ e p (omega arith) b ∙ sym (raised-new old new b)
+            | no b ↦ raised-old old new {i = i} (omega arith) ∙ sym (raised-old old new {i = j} (omega arith))
+          ]
+        ]
 
 -- only place i needs another number one place further
 pub raised-other : (old new : ℕ → ℕ) {i p : ℕ} → p ≢ i → raised old new i p ≡ raised old new (i + 1) p

@@ -43,6 +43,18 @@ rising n Targets p = leb n p
 rising n Sources p = ltb p n
 rising n Both p = true
 
+-- the first of them
+abbrev pub firstRising : ℕ → Rise → ℕ
+firstRising n Targets = n
+firstRising n Sources = 0
+firstRising n Both = 0
+
+-- and the place past the last
+abbrev pub endRising : ℕ → Rise → ℕ
+endRising n Targets = 2 * n
+endRising n Sources = n
+endRising n Both = 2 * n
+
 -- none of them has a row of more than k entries
 pub record NoLonger (n : ℕ) (rise : Rise) (w : List ℕ) (k : ℕ) : Type 0 where
   pub all : (p : ℕ) → p < 2 * n → rising n rise p ≡ true → rowLength w p ≤ k

@@ -3,15 +3,14 @@ use crate::Peel;
 use crate::Rise;
 use crate::Scope;
 use crate::peels::degrees_at;
-use crate::peels::need;
 use network::wide16;
-ghost use mathlib.Core.Bool.{cond, _&&_};
+ghost use mathlib.Core.Bool.{true, cond, _&&_};
 ghost use mathlib.Core.Path.{_≡_};
-ghost use Prim.Native.Nat.{_+_, _*_, _<_, _≤_};
+ghost use Prim.Native.Nat.{ℕ, _+_, _*_, _<_, _≤_};
 ghost use lib.Dec.{leb, ltb};
 ghost use lib.ListN.{length};
 ghost use Rattle.peeling.specs.Peeling.{Small, Rows, needOf, degreeOf};
-ghost use Rattle.peeling.specs.Climbs.{asked as askedAt, rising, rests, Some, Least, Climbed};
+ghost use Rattle.peeling.specs.Climbs.{asked as askedAt, firstRising, endRising, rising, rests, Some, Least, Climbed};
 
 // What is asked of places at k.
 fn asked(order: usize, size: usize, rise: Rise, fixed: usize, k: usize) -> Scope
@@ -30,42 +29,52 @@ fn asked(order: usize, size: usize, rise: Rise, fixed: usize, k: usize) -> Scope
     }
 }
 
-// Whether more is asked of a place as k is raised.
-fn rises(scope: Scope, rise: Rise, place: usize) -> bool
-    ensures { λ r. ⌜ r ≡ rising (scope .order) rise place ⌝ }
+// The first place of the sides that rise.
+fn first_rising(order: usize, rise: Rise) -> usize
+    ensures { λ r. ⌜ r ≡ firstRising order rise ⌝ }
 {
     match rise {
-        Rise::Targets => scope.order <= place,
-        Rise::Sources => place < scope.order,
-        Rise::Both => true,
+        Rise::Targets => order,
+        Rise::Sources => 0,
+        Rise::Both => 0,
     }
 }
 
-// The lesser of `least` and the degree of a place, where that place is left and rises.
-fn lesser(scope: Scope, rise: Rise, place: usize, degree: usize, least: usize) -> usize
-    ensures { λ r. ⌜ r ≡ cond ((rising (scope .order) rise place && leb (needOf scope place) degree) && ltb degree least) degree least ⌝ }
+// The place past their last one.
+fn end_rising(order: usize, rise: Rise) -> usize
+    requires { ⌜ order ≤ 2048 ⌝ }
+    ensures { λ r. ⌜ r ≡ endRising order rise ⌝ }
 {
-    if !rises(scope, rise, place) {
-        return least;
+    match rise {
+        Rise::Targets => 2 * order,
+        Rise::Sources => order,
+        Rise::Both => 2 * order,
     }
-    if degree < need(scope, place) {
+}
+
+// The lesser of `least` and a degree, where that is at least k.
+fn lesser(k: usize, degree: usize, least: usize) -> usize
+    ensures { λ r. ⌜ r ≡ cond (leb k degree && ltb degree least) degree least ⌝ }
+{
+    if degree < k {
         return least;
     }
     if degree < least { degree } else { least }
 }
 
-// The least degree among the places that are left and rise.
-pub fn least_left(work: &[u16], scope: Scope, rise: Rise) -> usize
+// The least degree among the places that are left and rise, all of which need k. Only the sides that rise are looked at.
+pub fn least_left(work: &[u16], scope: Scope, rise: Rise, k: usize) -> usize
     requires { ⌜ Small (scope .order) (scope .size) ⌝ }
     requires { ⌜ 2 * scope .size + 6 * scope .order + 2 ≤ length (now work) ⌝ }
+    requires { ⌜ ((p : ℕ) → rising (scope .order) rise p ≡ true → needOf scope p ≡ k) ⌝ }
     requires { ⌜ Some (rests scope rise (now work)) (2 * scope .order) ⌝ }
     ensures { λ r. ⌜ Least (rests scope rise (now (work .entry))) (degreeOf (scope .order) (scope .size) (now (work .entry))) (2 * scope .order) r ⌝ }
     ensures { λ r. ⌜ r < 65536 ⌝ }
 {
     let at = degrees_at(scope);
     let mut least = 65536;
-    for place in 0..2 * scope.order {
-        least = lesser(scope, rise, place, wide16(work[at + place]), least);
+    for place in first_rising(scope.order, rise)..end_rising(scope.order, rise) {
+        least = lesser(k, wide16(work[at + place]), least);
     }
     least
 }
@@ -93,7 +102,7 @@ pub fn climb(
             break k - 1;
         }
         let scope = asked(order, size, rise, fixed, k);
-        k = least_left(work, scope, rise) + 1;
+        k = least_left(work, scope, rise, k) + 1;
         peel = peel.advance(work, scope, asked(order, size, rise, fixed, k), false);
     };
     last

@@ -4,6 +4,7 @@ use crate::Peel;
 use crate::Scope;
 use network::wide16;
 ghost use mathlib.Core.Bool.{not, _&&_, _||_};
+ghost use mathlib.Core.Logic.{_⊎_};
 ghost use mathlib.Core.Path.{_≡_};
 ghost use Prim.Native.Nat.{ℕ, _+_, _-_, _*_, _<_, _≤_};
 ghost use lib.Dec.{ltb};
@@ -105,11 +106,13 @@ impl Peel {
         }
     }
 
-    // The place pushed where its degree is enough for `scope`, and not for `next`.
-    fn raise(self, work: &mut [u16], scope: Scope, next: Scope, place: usize) -> Peel
+    // The place pushed where its degree is enough for `scope`, and not for `next`. It needs what the first place of its side needs, which stays
+    // the same from place to place.
+    fn raise(self, work: &mut [u16], scope: Scope, next: Scope, first: usize, place: usize) -> Peel
         requires { ⌜ Small (scope .order) (scope .size) ⌝ }
         requires { ⌜ (next .order ≡ scope .order) × (scope .x ≤ next .x) × (scope .y ≤ next .y) ⌝ }
-        requires { ⌜ place < 2 * scope .order ⌝ }
+        requires { ⌜ (first ≡ 0) ⊎ (first ≡ scope .order) ⌝ }
+        requires { ⌜ (first ≤ place) × (place < first + scope .order) ⌝ }
         requires { ⌜ Peeling (scope .order) (scope .size) (raised (needOf scope) (needOf next) place) (now work) self ⌝ }
         ensures { λ r. ⌜ Peeling (scope .order) (scope .size) (raised (needOf scope) (needOf next) (place + 1)) (now (work .exit)) r ⌝ }
         ensures { λ r. ⌜ r .head ≡ self .head ⌝ }
@@ -117,15 +120,36 @@ impl Peel {
     {
         let at = degrees_at(scope) + place;
         let degree = wide16(work[at]);
-        let least = need(scope, place);
+        let least = need(scope, first);
         if degree < least {
             return self;
         }
-        let next_least = need(next, place);
+        let next_least = need(next, first);
         if next_least <= degree {
             return self;
         }
         self.push(work, scope, place)
+    }
+
+    // Every place of one side, the sources from 0 on or the targets from n on, pushed whose degree is enough for `scope`, and not for `next`.
+    // Where the side needs what it needed, there is none, and no place is looked at.
+    fn raise_side(self, work: &mut [u16], scope: Scope, next: Scope, first: usize) -> Peel
+        requires { ⌜ Small (scope .order) (scope .size) ⌝ }
+        requires { ⌜ (next .order ≡ scope .order) × (scope .x ≤ next .x) × (scope .y ≤ next .y) ⌝ }
+        requires { ⌜ (first ≡ 0) ⊎ (first ≡ scope .order) ⌝ }
+        requires { ⌜ Peeling (scope .order) (scope .size) (raised (needOf scope) (needOf next) first) (now work) self ⌝ }
+        ensures { λ r. ⌜ Peeling (scope .order) (scope .size) (raised (needOf scope) (needOf next) (first + scope .order)) (now (work .exit)) r ⌝ }
+        ensures { λ r. ⌜ r .head ≡ self .head ⌝ }
+        ensures { λ _. ⌜ Kept (scope .order) (scope .size) (now (work .entry)) (now (work .exit)) ⌝ }
+    {
+        if need(scope, first) == need(next, first) {
+            return self;
+        }
+        let mut peel = self;
+        for place in first..first + scope.order {
+            peel = peel.raise(work, scope, next, first, place);
+        }
+        peel
     }
 
     // Every place pushed whose degree is enough for `scope`, and not for x and y.
@@ -138,11 +162,8 @@ impl Peel {
         ensures { λ _. ⌜ Kept (scope .order) (scope .size) (now (work .entry)) (now (work .exit)) ⌝ }
     {
         let next = Scope { x, y, ..scope };
-        let mut peel = self;
-        for place in 0..2 * scope.order {
-            peel = peel.raise(work, scope, next, place);
-        }
-        peel
+        self.raise_side(work, scope, next, 0)
+            .raise_side(work, scope, next, scope.order)
     }
 
     // One edge of the place lost, and the place pushed where that makes it short.

@@ -1,66 +1,32 @@
--- `cores::Peel::tighten` meets its contract. The loop's invariant: the places passed need the new numbers, the others the old ones, and the
--- peel goes by these. The measure is the number of places left.
-use Prim.Native.Nat.{_-_, _*_, _≤_}
-use mathlib.Core.Path.{_≡_, refl, _∙_}
+-- `peeling::Peel::tighten` meets its contract: past the sources and past the targets, all places need the new numbers.
+use mathlib.Core.Logic.{inl, inr}
+use mathlib.Core.Path.{refl, _∙_}
+use native.Mathlib.Nat.{zero-add}
 use native.Mathlib.Omega.{arith}
-use Rattle.peeling.specs.Peeling.{needOf, Peeling, Kept, raised}
-use Rattle.peeling.proofs.Kept.{kept-same, kept-next}
-use Rattle.peeling.proofs.Raises.{raise-begins, raise-ends}
 use borrow.Author.Needs.{needs}
+use Rattle.peeling.proofs.Kept.{kept-next}
+use Rattle.peeling.proofs.Raises.{raise-begins, raise-ends}
 use Rattle.peeling.proofs.Peel.tighten.Statement.{statement}
 use Rattle.peeling.proofs.Peel.tighten.Tie as tie
 
-abbrev Inv-loop : tie.InvT-loop
-Inv-loop work₀ scope x y next peel₀ place₀ place-end work peel place =
-    (place-end ≡ 2 * scope .order)
-    × (place ≤ place-end)
-    × Peeling (scope .order) (scope .size) (raised (needOf scope) (needOf next) place) work peel
-    × (peel .head ≡ peel₀ .head)
-    × Kept (scope .order) (scope .size) work₀ work
+raise-side-requires : tie.Need-raise-side-requires
+raise-side-requires c κs =
+    let p = c .before .before .pre in
+    (p .0, ((refl, p .1 .0 .0, p .1 .0 .1), (inl refl, raise-begins _ _ (p .1 .1))))
 
-abbrev μ-loop : tie.MeasureT-loop
-μ-loop work₀ scope x y next peel₀ place₀ place-end work peel place = place-end - place
+raise-side-requires-2 : tie.Need-raise-side-requires-2
+raise-side-requires-2 c κs =
+    let p = c .before .before .before .before .before .before .pre in
+    (p .0, ((refl, p .1 .0 .0, p .1 .0 .1), (inr refl, rw (zero-add (c .before .before .before .before .before .before .args .scope .order)) at (c .before .before .before .raise-side .ensures .0))))
 
-mul-place-end : tie.Need-mul-place-end Inv-loop μ-loop
-mul-place-end c = search needs
-
-loop-holds : tie.Need-loop-holds Inv-loop μ-loop
-loop-holds c = (refl, omega arith, raise-begins _ _ (c .before .before .pre .1 .1), refl, kept-same _)
-
-raise-requires : tie.Need-raise-requires Inv-loop μ-loop
-raise-requires c κs = search needs
-
-add-place : tie.Need-add-place Inv-loop μ-loop
-add-place c = search needs
-
-loop-less : tie.Need-loop-less Inv-loop μ-loop
-loop-less c = search needs
-
-loop-again : tie.Need-loop-again Inv-loop μ-loop
-loop-again c =
-    let inv = c .before .before .before .before .before .loop .inv in
-    let after = c .before .before .raise .ensures in
-    (inv .0, omega arith, after .0, after .1 .0 ∙ inv .3, kept-next (inv .4) (after .1 .1))
-
-same-length : tie.Need-same-length Inv-loop μ-loop
+same-length : tie.Need-same-length
 same-length c = search needs
 
-returns : tie.Need-returns Inv-loop μ-loop
+returns : tie.Need-returns
 returns c =
-    let inv = c .before .loop .inv in
-    (raise-ends _ _ (c .before .loop .place) (omega arith) (inv .2), (inv .3, inv .4))
+    let sources = c .before .before .before .before .before .before .raise-side .ensures in
+    let targets = c .before .before .raise-side2 .ensures in
+    (raise-ends _ _ _ (omega arith) (targets .0), (targets .1 .0 ∙ sources .1 .0, kept-next (sources .1 .1) (targets .1 .1)))
 
 pub tighten-spec : {M : Type 1} → statement M
-tighten-spec =
-    tie.close
-    (tie.spec
-    Inv-loop
-    μ-loop
-    mul-place-end
-    loop-holds
-    raise-requires
-    add-place
-    loop-less
-    loop-again
-    same-length
-    returns)
+tighten-spec = tie.close (tie.spec raise-side-requires raise-side-requires-2 same-length returns)

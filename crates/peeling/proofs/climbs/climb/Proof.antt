@@ -7,7 +7,7 @@ use mathlib.Core.Path.{_≡_, sym, _∙_}
 use native.Mathlib.Omega.{arith}
 use borrow.Author.Needs.{needs}
 use Rattle.peeling.specs.Peeling.{emptied}
-use Rattle.peeling.proofs.Climbing.{Climbing, climb-begins, climb-some, climb-more, climb-ready, climb-next, climb-ends}
+use Rattle.peeling.proofs.Climbing.{Climbing, climb-begins, climb-some, climb-needs, climb-more, climb-ready, climb-next, climb-ends}
 use Rattle.peeling.proofs.climbs.climb.Statement.{statement}
 use Rattle.peeling.proofs.climbs.climb.Tie as tie
 
@@ -48,7 +48,7 @@ least-left-requires c κs =
     let scope = c .before .asked2 .ensures in
     let turn = c .before .before in
     let inv = turn .before .before .loop .inv in
-    (rw scope (start turn .pre .0), (rw scope (inv .ended .peeling .rows .long), climb-some inv (some turn) scope))
+    (rw scope (start turn .pre .0), (rw scope (inv .ended .peeling .rows .long), (climb-needs inv scope, climb-some inv (some turn) scope)))
 
 add-k : tie.Need-add-k Inv-loop μ-loop
 add-k c = search needs
