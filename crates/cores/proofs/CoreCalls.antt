@@ -8,23 +8,22 @@ use native.Mathlib.Omega.{arith}
 use borrow.Author.Tests.{ltb-false, lt-ltb, le-ltb, eq-eqb, ne-eqb}
 use lib.Dec.{eqb, ltb}
 use lib.ListN.{length, drop}
-use Rattle.graph.specs.Graph.{Graph, Closed}
+use Rattle.graph.specs.Graph.{Graph}
 use Rattle.network.specs.declared.Refusal.{Refusal}
 use Rattle.network.specs.declared.Totals.{Totals}
 use Rattle.network.specs.File.{graphOf, groupOf, none, plain, fileRefusal}
 use Rattle.network.specs.Refusals.{orElse, workLength, coreRefusal, levelRefusal, equalLevelRefusal}
 use Rattle.network.specs.Tables.{bytesOf}
 use Rattle.network.specs.Sides.{Sound}
-use Rattle.network.proofs.Accepted.{Accepted, accepted, accepted-orElse, cond-none, or-fails, Proper, file-proper, core-proper, cond-proper, none-proper, orElse-proper}
+use Rattle.network.proofs.Accepted.{accepted-orElse, cond-none, or-fails, Proper, file-proper, cond-proper, none-proper, orElse-proper}
 use Rattle.network.proofs.Answers.{refusal-some, answers-refused, answers-accepted, orElse-first, orElse-second}
 use Rattle.network.proofs.Headers.{accepted-sound}
 use Rattle.peeling.specs.declared.Rise.{Rise}
 use Rattle.peeling.specs.declared.Scope.{Scope}
 use Rattle.peeling.specs.Peeling.{Small, Rows, Tabled, Kept}
 use Rattle.peeling.specs.Groups.{CoreIn}
-use Rattle.peeling.specs.Climbs.{LevelOf, Climbed}
+use Rattle.peeling.specs.Climbs.{Climbed}
 use Rattle.peeling.proofs.Levels.{climbed-level}
-use Rattle.cores.specs.declared.CoreAnswer.{CoreAnswer}
 use Rattle.cores.specs.declared.CoreAnswer.the-variants.{Done, Refused}
 use Rattle.cores.specs.declared.LevelAnswer as answer
 use Rattle.cores.specs.Places.{Places}

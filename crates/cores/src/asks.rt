@@ -12,12 +12,11 @@ use peeling::climb;
 use peeling::core_in;
 ghost use Prim.Native.Nat.{_+_, _*_, _<_, _≤_};
 ghost use mathlib.Core.Path.{_≡_};
-ghost use lib.ListN.{length, drop};
+ghost use lib.ListN.{length};
 ghost use Rattle.graph.specs.Order.{Sorted, precedes};
 ghost use Rattle.network.specs.File.{graphOf, none};
 ghost use Rattle.network.specs.Refusals.{workLength};
 ghost use Rattle.network.specs.Sides.{Sound};
-ghost use Rattle.peeling.specs.Climbs.{LevelOf};
 ghost use Rattle.cores.specs.Calls.{coreRefusalOf, levelRefusalOf, equalRefusalOf, CoreCall, LevelCall, Levelled};
 
 // 01: the length of the work table.

@@ -1,18 +1,16 @@
 -- The finding call: its refusals under their conditions, and how its answers are told.
 use Prim.Native.Nat.{ℕ, zero, suc, _≤_}
-use mathlib.Core.Bool.{cond}
 use mathlib.Core.List.{List, _∷_, _++_}
 use mathlib.Core.Logic.{_≢_, _↔_}
 use mathlib.Core.Path.{_≡_, refl, sym, ap, subst, _∙_}
 use native.Mathlib.Omega.{arith}
 use borrow.Author.Tests.{eq-eqb, ne-eqb}
-use lib.Dec.{eqb}
 use lib.ListN.{length, drop}
 use Rattle.graph.proofs.Sums.{sum-ones}
 use Rattle.graph.proofs.Density.{finding-bounds}
 use Rattle.network.specs.declared.Refusal.{Refusal}
 use Rattle.network.specs.File.{graphOf, groupOf, none, plain}
-use Rattle.network.specs.Refusals.{orElse, coreRefusal, findingRefusal}
+use Rattle.network.specs.Refusals.{coreRefusal, findingRefusal}
 use Rattle.network.specs.Tables.{bytesOf}
 use Rattle.network.proofs.Accepted.{Proper, core-proper, cond-proper, none-proper, orElse-proper, orElse-both}
 use Rattle.network.proofs.Answers.{refusal-some, answers-refused, answers-accepted, orElse-first, orElse-second}

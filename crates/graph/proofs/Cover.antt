@@ -1,17 +1,17 @@
 -- The double cover joins cores to peeling: a pair of groups is dense exactly when its places are settled, and the settled set that
 -- surrounds every settled set is the core.
 use Prim.Native.Nat.{ℕ, _+_, _-_, _*_, _<_, _≤_}
-use mathlib.Core.Bool.{Bool, true, false, cond, _&&_, and-false}
-use mathlib.Core.Logic.{_↔_, _≢_}
+use mathlib.Core.Bool.{Bool, true, false, _&&_, and-false}
+use mathlib.Core.Logic.{_↔_}
 use mathlib.Core.Path.{_≡_, refl, sym, ap, _∙_}
 use native.Mathlib.Decide.{decLt}
 use native.Mathlib.Nat.{add-comm, add-sub-cancel-left, add-left-cancel}
 use native.Mathlib.Omega.{arith}
 use borrow.Author.Tests.{lt-ltb, le-ltb, ne-eqb, eqb-true, eq-eqb}
-use lib.Dec.{eqb, ltb}
+use lib.Dec.{eqb}
 use Rattle.graph.specs.Range.{sum, if}
 use Rattle.graph.specs.Graph.{Graph, Closed, Group, edges, outDegree, inDegree}
-use Rattle.graph.specs.Core.{Inside, Same, Dense, Covers, Core}
+use Rattle.graph.specs.Core.{Same, Dense, Covers, Core}
 use Rattle.graph.specs.Linkage.{degree, Settled, Surrounds}
 use Rattle.graph.specs.Cover.{cover, joined, need, targets, places}
 use Rattle.graph.proofs.Tests.{test-ext}

@@ -2,10 +2,9 @@
 use Prim.Native.Nat.{ℕ}
 use mathlib.Core.List.{List, _∷_, map}
 use mathlib.Core.Logic.{_≢_}
-use mathlib.Core.Path.{_≡_, refl, sym, ap, _∙_}
+use mathlib.Core.Path.{_≡_, ap, _∙_}
 use native.Mathlib.Omega.{arith}
 use Rattle.network.specs.declared.Refusal.{Refusal}
-use Rattle.network.specs.declared.CheckAnswer.{CheckAnswer}
 use Rattle.network.specs.declared.CheckAnswer.the-variants.{Accepted, Refused}
 use Rattle.network.specs.File.{graphOf, none, fileRefusal}
 use borrow.Author.Tests.{ne-eqb}

@@ -1,17 +1,15 @@
 -- The count call: each refusal under its condition, and how its answer is told.
 use Prim.Native.Nat.{ℕ, _<_, _≤_}
-use mathlib.Core.Bool.{true, false, _&&_, _||_, or-true, and-false}
+use mathlib.Core.Bool.{true, false, or-true, and-false}
 use mathlib.Core.List.{List}
 use mathlib.Core.Logic.{_≢_}
-use mathlib.Core.Path.{_≡_, refl, sym, ap, _∙_}
+use mathlib.Core.Path.{_≡_, sym, _∙_}
 use native.Mathlib.Omega.{arith}
 use borrow.Author.Tests.{lt-ltb, le-ltb}
-use lib.Dec.{ltb}
 use lib.ListN.{length}
 use Rattle.graph.specs.Graph.{card, edges}
 use Rattle.network.specs.declared.Refusal.{Refusal}
 use Rattle.network.specs.declared.Totals.{Totals}
-use Rattle.network.specs.declared.CountAnswer.{CountAnswer}
 use Rattle.network.specs.declared.CountAnswer.the-variants.{Counted, Refused}
 use Rattle.network.specs.File.{graphOf, groupOf, none, plain, fileRefusal}
 use Rattle.network.specs.Refusals.{isGroup, countRefusal}

@@ -8,7 +8,6 @@ use native.Mathlib.Omega.{arith}
 use borrow.Author.Tests.{lt-ltb, le-ltb, eq-eqb, ne-eqb}
 use lib.Dec.{ltb}
 use lib.ListN.{length}
-use Rattle.graph.specs.Graph.{Closed}
 use Rattle.network.specs.declared.Refusal.{Refusal}
 use Rattle.network.specs.File.{u16At, graphOf, marked, outside, repeat, none, plain, at, fileRefusal}
 use Rattle.network.specs.Checks.{Header, HeaderNumber}

@@ -1,17 +1,17 @@
 -- Bytes stored one after the other: numbers, an edge, the header and the whole file.
-use Prim.Native.Nat.{ℕ, zero, suc, _+_, _*_, _/_, _%_, _<_, _≤_}
+use Prim.Native.Nat.{ℕ, suc, _+_, _*_, _/_, _%_, _<_, _≤_}
 use mathlib.Core.List.{List, [], _∷_, _++_}
 use mathlib.Core.Path.{_≡_, refl, sym, ap, _∙_}
 use native.Mathlib.Nat.{zero-add, add-zero, add-suc, suc-add, mod-eq-of-lt}
 use native.Mathlib.Numerals.{add-one}
 use native.Mathlib.Omega.{arith}
-use lib.ListN.{length, set, drop, length-append}
+use lib.ListN.{length, set, drop}
 use lib.Seq.{sets, sets-eq}
 use Rattle.graph.specs.Range.{flat}
 use Rattle.graph.specs.Graph.{Graph}
 use Rattle.graph.specs.Order.{edgeAt}
 use Rattle.graph.proofs.Ranges.{length-flat}
-use Rattle.network.specs.Tables.{u16, header, edgeBytes, links, written}
+use Rattle.network.specs.Tables.{u16, header, edgeBytes}
 
 -- two runs of stores, one after the other
 pub sets-append : (l : List ℕ) (i : ℕ) (a b : List ℕ) → sets (sets l i a) (i + length a) b ≡ sets l i (a ++ b)

@@ -8,15 +8,15 @@ use native.Mathlib.Decide.{decLe, ℕ-discrete}
 use native.Mathlib.Nat.{suc-inj}
 use native.Mathlib.Numerals.{add-one}
 use native.Mathlib.Omega.{arith}
-use borrow.Author.Tests.{ltb-true, lt-ltb, eq-eqb}
-use lib.Dec.{eqb, ltb}
+use borrow.Author.Tests.{ltb-true, lt-ltb}
+use lib.Dec.{ltb}
 use Rattle.graph.specs.Range.{first}
 use Rattle.graph.specs.Graph.{Graph, Simple}
-use Rattle.graph.specs.Order.{lexicographic, precedes, rankBy, nthBy, rank, edgeAt}
+use Rattle.graph.specs.Order.{precedes, rank, edgeAt}
 use Rattle.graph.proofs.Tests.{and-left, and-right, and-both}
 use Rattle.graph.proofs.Sums.{below-suc}
-use Rattle.graph.proofs.Ranges.{first-passes, first-some, first-le, first-is}
-use Rattle.graph.proofs.Order.{lexicographic-less, lexicographic-same, lexicographic-either, precedes-strict, rank-lt, rank-injective, rank-mono, rank-less, rank-nth, nth-rank, nth-lt, edgeAt-lt, edgeAt-ascending}
+use Rattle.graph.proofs.Ranges.{first-passes, first-some, first-is}
+use Rattle.graph.proofs.Order.{lexicographic-less, lexicographic-same, lexicographic-either, precedes-strict, rank-lt, rank-injective, rank-mono, rank-less, rank-nth, nth-rank, edgeAt-lt, edgeAt-ascending}
 use Rattle.network.specs.File.{same, repeat}
 use Rattle.network.specs.Checks.{ascends}
 use Rattle.network.proofs.Accepted.{same-ends}

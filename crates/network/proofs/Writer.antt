@@ -14,7 +14,7 @@ use Rattle.network.specs.File.{graphOf, none, plain, fileRefusal}
 use Rattle.network.specs.Refusals.{fileLength, writeRefusal}
 use Rattle.network.specs.Tables.{written}
 use Rattle.network.specs.Writes.{WriteCall}
-use Rattle.network.proofs.Accepted.{Accepted, accepted-orElse}
+use Rattle.network.proofs.Accepted.{accepted-orElse}
 use Rattle.network.proofs.Answers.{refusal-some, answers-refused, answers-accepted, orElse-first, orElse-second}
 use Rattle.network.proofs.Puts.{sets-front}
 use Rattle.network.proofs.Written.{length-written, WrittenSame, written-same}

@@ -1,9 +1,8 @@
 -- A group written byte by byte stands in the table's first bytes, and the later ones are as they were.
-use Prim.Native.Nat.{ℕ, zero, _+_, _<_, _≤_}
+use Prim.Native.Nat.{ℕ, _+_, _<_}
 use mathlib.Core.List.{List, _++_}
 use mathlib.Core.Path.{_≡_, refl, sym, ap, _∙_}
 use native.Mathlib.Numerals.{add-one}
-use native.Mathlib.Omega.{arith}
 use lib.Dec.{eqb}
 use lib.ListN.{length, getD, set, drop, List·getD-append}
 use Rattle.graph.specs.Range.{if, flat, table}

@@ -9,8 +9,7 @@ use report::Numbers;
 ghost use Prim.Native.Nat.{_≤_};
 ghost use mathlib.Core.Path.{_≡_};
 ghost use lib.ListN.{length};
-ghost use Rattle.report.specs.Put.{Begins};
-ghost use Rattle.report.specs.Text.{refusalText, longestReport};
+ghost use Rattle.report.specs.Text.{longestReport};
 ghost use Rattle.vouch_report.specs.Printed.{refusalOf, numbersOf, Laid};
 
 // The refusal of a finding that is refused.

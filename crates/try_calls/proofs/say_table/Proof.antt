@@ -1,7 +1,5 @@
 -- `say_table` prints each entry. The invariant: i is at most the length.
 use Prim.Native.Nat.{_≤_, _-_}
-use lib.ListN.{length}
-use native.Mathlib.Omega.{arith}
 use borrow.Author.Needs.{needs}
 use Rattle.try_calls.proofs.say_table.Statement.{statement}
 use Rattle.try_calls.proofs.say_table.Tie as tie

@@ -1,6 +1,6 @@
 -- `file_state` gives what can be told without an order, and of other files 8 or none, which leaves their order.
 use mathlib.Core.Bool.{true, false, false≢true}
-use mathlib.Core.Path.{_≡_, refl, sym, _∙_}
+use mathlib.Core.Path.{refl, sym, _∙_}
 use Rattle.network.proofs.Answers.{refusal-some}
 use borrow.Author.Needs.{needs}
 use Rattle.calls.proofs.checks.file_state.Statement.{statement}

@@ -1,7 +1,7 @@
 -- `put_edges` stores the edges in order. The invariant: the edges before place i are stored.
-use Prim.Native.Nat.{ℕ, _+_, _*_, _<_, _≤_, _-_}
-use mathlib.Core.Path.{_≡_, refl, sym, ap, _∙_}
-use lib.ListN.{length, getD}
+use Prim.Native.Nat.{_+_, _*_, _<_, _≤_, _-_}
+use mathlib.Core.Path.{_≡_, ap, _∙_}
+use lib.ListN.{length}
 use lib.Seq.{sets, length-sets}
 use Rattle.graph.specs.Range.{flat}
 use Rattle.graph.specs.Graph.{Graph}

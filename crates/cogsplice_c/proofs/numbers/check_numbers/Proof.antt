@@ -1,5 +1,5 @@
 -- `check_numbers` is the definition, case by case.
-use mathlib.Core.Path.{sym, ap, _∙_}
+use mathlib.Core.Path.{sym, ap}
 use Rattle.network.specs.Checks.{checkNumbers}
 use borrow.Author.Needs.{needs}
 use Rattle.cogsplice_c.proofs.numbers.check_numbers.Statement.{statement}

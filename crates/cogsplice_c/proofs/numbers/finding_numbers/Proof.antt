@@ -1,5 +1,5 @@
 -- `finding_numbers` is the definition, case by case.
-use mathlib.Core.Path.{sym, ap, _∙_}
+use mathlib.Core.Path.{sym, ap}
 use Rattle.finding.specs.Findings.{findingNumbers}
 use borrow.Author.Needs.{needs}
 use Rattle.cogsplice_c.proofs.numbers.finding_numbers.Statement.{statement}

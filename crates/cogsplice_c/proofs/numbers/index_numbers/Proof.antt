@@ -1,5 +1,5 @@
 -- `index_numbers` is the definition, case by case.
-use mathlib.Core.Path.{sym, ap, _∙_}
+use mathlib.Core.Path.{sym, ap}
 use Rattle.adjacency.specs.Indexes.{indexNumbers}
 use borrow.Author.Needs.{needs}
 use Rattle.cogsplice_c.proofs.numbers.index_numbers.Statement.{statement}

@@ -1,5 +1,5 @@
 -- `level_numbers` is the definition, case by case.
-use mathlib.Core.Path.{sym, ap, _∙_}
+use mathlib.Core.Path.{sym, ap}
 use Rattle.cores.specs.Calls.{levelNumbers}
 use borrow.Author.Needs.{needs}
 use Rattle.cogsplice_c.proofs.numbers.level_numbers.Statement.{statement}

@@ -1,5 +1,5 @@
 -- `write_numbers` is the definition, case by case.
-use mathlib.Core.Path.{sym, ap, _∙_}
+use mathlib.Core.Path.{sym, ap}
 use Rattle.network.specs.Writes.{writeNumbers}
 use borrow.Author.Needs.{needs}
 use Rattle.cogsplice_c.proofs.numbers.write_numbers.Statement.{statement}

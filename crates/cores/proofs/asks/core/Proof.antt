@@ -1,5 +1,5 @@
 -- `core` refuses, or lays the places of the file's network into the work table and writes the groups that the peel leaves.
-use mathlib.Core.Path.{_≡_, refl, sym, ap, _∙_}
+use mathlib.Core.Path.{_≡_, sym, ap, _∙_}
 use native.Mathlib.Omega.{arith}
 use lib.ListN.{length}
 use Rattle.network.specs.File.{graphOf, none}

@@ -1,7 +1,7 @@
 -- `core_refusal` refuses by the file, then a short group, then a short work table; else the order that the check left stands.
 use mathlib.Core.Path.{_≡_, sym, ap, _∙_}
 use native.Mathlib.Omega.{arith}
-use Rattle.network.specs.File.{graphOf, none, fileRefusal}
+use Rattle.network.specs.File.{none, fileRefusal}
 use Rattle.network.specs.Sides.{Sound}
 use Rattle.network.proofs.Accepted.{accepted}
 use Rattle.network.proofs.Answers.{refusal-some}

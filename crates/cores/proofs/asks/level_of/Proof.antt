@@ -1,5 +1,4 @@
 -- `level_of` lays the places of the file's network into the work table and climbs from 1.
-use Prim.Native.Nat.{_≤_}
 use native.Mathlib.Omega.{arith}
 use Rattle.network.specs.File.{graphOf}
 use Rattle.peeling.specs.Peeling.{Tabled}
