@@ -78,21 +78,9 @@ card-without g S u l h = sum-without (λ w. 1) S (g .order) u l h
 pub edges-without : {g : Graph} → Closed g → (S T : Group) (u : ℕ) → u < g .order → S u ≡ true → edges g S T ≡ edges g (without S u) T + outDegree g T u
 edges-without {g} k S T u l h = edges-out k S T ∙ sum-without (outDegree g T) S (g .order) u l h ∙ rw (edges-out k (without S u) T)
 
--- each vertex loses its links from it,
-pub in-without : {g : Graph} → Closed g → (S : Group) (u v : ℕ) → u < g .order → S u ≡ true → inDegree g S v ≡ inDegree g (without S u) v + edges g (only u) (only v)
-in-without k S u v l h = edges-without k S (only v) u l h
-
--- and so on the other side,
+-- and so on the other side
 pub edges-without-in : {g : Graph} → Closed g → (S T : Group) (v : ℕ) → v < g .order → T v ≡ true → edges g S T ≡ edges g S (without T v) + inDegree g S v
 edges-without-in {g} k S T v l h = rw (← edges-reverse g S T, ← edges-reverse g S (without T v), ← edges-reverse g S (only v)) (edges-without (closed-reverse k) T S v l h)
-
--- where each vertex loses its links to it
-pub out-without : {g : Graph} → Closed g → (T : Group) (u v : ℕ) → v < g .order → T v ≡ true → outDegree g T u ≡ outDegree g (without T v) u + edges g (only u) (only v)
-out-without k T u v l h = edges-without-in k (only u) T v l h
-
--- and what is left was in the group
-pub without-inside : (g : Graph) (S : Group) (u : ℕ) → Inside g (without S u) S
-without-inside g S u w l h = and-right (not (eqb w u)) (S w) h
 
 -- a smaller group that lacks the vertex is in what is left
 pub inside-without : (g : Graph) {R S : Group} (u : ℕ) → Inside g R S → R u ≢ true → Inside g R (without S u)

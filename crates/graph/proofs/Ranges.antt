@@ -59,12 +59,6 @@ first-is p n k l none some =
 pub first-none : (p : ℕ → Bool) (n : ℕ) → ((i : ℕ) → i < n → p i ≡ false) → first p n ≡ n
 first-none p n none = first-is p n n (le-refl n) none (λ l. absurd (omega arith))
 
--- tests that agree below n have the same first
-pub first-ext : {p q : ℕ → Bool} (n : ℕ) → ((i : ℕ) → i < n → p i ≡ q i) → first p n ≡ first q n
-first-ext {p} {q} n e =
-    first-is p n (first q n) (first-le q n) (λ i l. e i (omega (arith, first-le q n)) ∙ first-before q n i l)
-    (λ l. e (first q n) l ∙ first-passes q n l)
-
 -- equal parts make equal lists
 pub flat-ext : {f h : ℕ → List ℕ} (n : ℕ) → ((i : ℕ) → i < n → f i ≡ h i) → flat f n ≡ flat h n
 unfolding flat

@@ -68,11 +68,7 @@ pub cond-proper : (b : Bool) (r : Refusal) {s : Refusal} → eqb (r .number) 0 �
 cond-proper true r e p = record { number-none = λ h. absurd (eqb-false _ 0 e h) }
 cond-proper false r e p = p
 
--- of two refusals the second counts where the first is none
-pub orElse-none : (s : Refusal) → orElse none s ≡ s
-orElse-none s = refl
-
--- together they are none exactly when each is
+-- two refusals, of which the second counts where the first is none, are none exactly when each is
 pub orElse-both : {r : Refusal} (s : Refusal) → Proper r → (orElse r s ≡ none) ↔ ((r ≡ none) × (s ≡ none))
 orElse-both {r} s p = (go (eqb (r .number) 0) refl, λ (h, i). rw h i)
   where
