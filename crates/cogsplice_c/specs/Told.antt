@@ -4,7 +4,16 @@ use mathlib.Core.Bool.{Bool, cond}
 use mathlib.Core.List.{List, [], _∷_}
 use mathlib.Core.Logic.{_≢_}
 use mathlib.Core.Path.{_≡_}
-use lib.ListN.{getD}
+use lib.ListN.{getD, replicate}
+use Rattle.network.specs.declared.Refusal.{Refusal}
+use Rattle.network.specs.declared.Totals.{Totals}
+use Rattle.network.specs.declared.CheckAnswer as check
+use Rattle.network.specs.declared.CountAnswer as count
+use Rattle.network.specs.declared.WriteAnswer as write
+use Rattle.adjacency.specs.declared.IndexAnswer as index
+use Rattle.cores.specs.declared.CoreAnswer as core
+use Rattle.cores.specs.declared.LevelAnswer as level
+use Rattle.finding.specs.declared.FindingAnswer as finding
 use Rattle.network.specs.declared.Side.{Side}
 use Rattle.network.specs.declared.Side.the-variants.{Source, Target}
 use Rattle.network.specs.File.{none}
@@ -23,27 +32,70 @@ pub record Told {A : Type 0} (call : A → Type 0) (numbers : A → List ℕ) (g
   pub kept : call answer
   pub same : given ≡ numbers answer
 
--- the numbers of each struct: the refusal and its link, then the values in 01's order
+-- a refusal's numbers, and 0 for each of k values
+abbrev pub refused : Refusal → ℕ → List ℕ
+refused r k = r .number ∷ r .link ∷ replicate k 0
+
+-- E, |S| and |T|
+abbrev pub totalsNumbers : Totals → List ℕ
+totalsNumbers c = c .edges ∷ c .sources ∷ c .targets ∷ []
+
+-- The numbers of each answer, and of each struct: the refusal and its link, then the values in 01's order. Of the check,
+abbrev pub checkNumbers : check.CheckAnswer → List ℕ
+checkNumbers (check.the-variants.Accepted n m) = 0 ∷ 0 ∷ n ∷ m ∷ []
+checkNumbers (check.the-variants.Refused r) = refused r 2
+
+-- whose struct is
 abbrev pub ofCheck : CheckNumbers → List ℕ
 ofCheck r = r .refusal ∷ r .link ∷ r .n ∷ r .m ∷ []
 
--- of the count and of the core
+-- of the count,
+abbrev pub countNumbers : count.CountAnswer → List ℕ
+countNumbers (count.the-variants.Counted c) = 0 ∷ 0 ∷ totalsNumbers c
+countNumbers (count.the-variants.Refused r) = refused r 3
+
+-- and of the core,
+abbrev pub coreNumbers : core.CoreAnswer → List ℕ
+coreNumbers (core.the-variants.Done c) = 0 ∷ 0 ∷ totalsNumbers c
+coreNumbers (core.the-variants.Refused r) = refused r 3
+
+-- whose struct is
 abbrev pub ofTotals : TotalsNumbers → List ℕ
 ofTotals r = r .refusal ∷ r .link ∷ r .edges ∷ r .sources ∷ r .targets ∷ []
 
--- of the writer
+-- of the writer,
+abbrev pub writeNumbers : write.WriteAnswer → List ℕ
+writeNumbers (write.the-variants.Written m) = 0 ∷ 0 ∷ m ∷ []
+writeNumbers (write.the-variants.Refused r) = refused r 1
+
+-- whose struct is
 abbrev pub ofWrite : WriteNumbers → List ℕ
 ofWrite r = r .refusal ∷ r .link ∷ r .m ∷ []
 
--- of the index
+-- of the index,
+abbrev pub indexNumbers : index.IndexAnswer → List ℕ
+indexNumbers index.the-variants.Done = 0 ∷ 0 ∷ []
+indexNumbers (index.the-variants.Refused r) = refused r 0
+
+-- whose struct is
 abbrev pub ofIndex : IndexNumbers → List ℕ
 ofIndex r = r .refusal ∷ r .link ∷ []
 
--- of the three level calls
+-- of the three level calls,
+abbrev pub levelNumbers : level.LevelAnswer → List ℕ
+levelNumbers (level.the-variants.At k) = 0 ∷ 0 ∷ k ∷ []
+levelNumbers (level.the-variants.Refused r) = refused r 1
+
+-- whose struct is
 abbrev pub ofLevel : LevelNumbers → List ℕ
 ofLevel r = r .refusal ∷ r .link ∷ r .level ∷ []
 
--- of the finding
+-- of the finding,
+abbrev pub findingNumbers : finding.FindingAnswer → List ℕ
+findingNumbers (finding.the-variants.Found r) = 0 ∷ 0 ∷ r .x ∷ r .y ∷ r .equal ∷ totalsNumbers (r .totals)
+findingNumbers (finding.the-variants.Refused r) = refused r 6
+
+-- whose struct is
 abbrev pub ofFinding : FindingNumbers → List ℕ
 ofFinding r = r .refusal ∷ r .link ∷ r .x ∷ r .y ∷ r .equal ∷ r .edges ∷ r .sources ∷ r .targets ∷ []
 

@@ -15,17 +15,15 @@ use cogsplice::Side;
 ghost use mathlib.Core.Bool.{_&&_};
 ghost use mathlib.Core.Path.{_≡_};
 ghost use lib.Dec.{eqb};
-ghost use lib.ListN.{length};
 ghost use Rattle.network.specs.Refusals.{rowRefusal};
-ghost use Rattle.network.specs.Checks.{CheckCall, checkNumbers};
-ghost use Rattle.network.specs.Counts.{CountCall, countNumbers};
-ghost use Rattle.network.specs.Writes.{WriteCall, writeNumbers};
-ghost use Rattle.peeling.specs.declared.Rise.the-variants.{Targets, Sources, Both};
+ghost use Rattle.network.specs.Checks.{CheckCall};
+ghost use Rattle.network.specs.Counts.{CountCall};
+ghost use Rattle.network.specs.Writes.{WriteCall};
 ghost use Rattle.adjacency.specs.Rows.{bySide};
-ghost use Rattle.adjacency.specs.Indexes.{IndexCall, indexNumbers};
-ghost use Rattle.cores.specs.Calls.{CoreCall, LevelCall, coreNumbers, levelNumbers, levelRefusalOf, equalRefusalOf};
-ghost use Rattle.finding.specs.Findings.{FindingCall, findingNumbers};
-ghost use Rattle.cogsplice_c.specs.Told.{Told, PartOf, sideOf, ofCheck, ofTotals, ofWrite, ofIndex, ofLevel, ofFinding};
+ghost use Rattle.adjacency.specs.Indexes.{IndexCall};
+ghost use Rattle.cores.specs.Calls.{CoreCall, LevelCall, LevelAcrossCall, EqualLevelCall};
+ghost use Rattle.finding.specs.Findings.{FindingCall};
+ghost use Rattle.cogsplice_c.specs.Told.{Told, PartOf, sideOf, checkNumbers, countNumbers, writeNumbers, indexNumbers, coreNumbers, levelNumbers, findingNumbers, ofCheck, ofTotals, ofWrite, ofIndex, ofLevel, ofFinding};
 
 // The numbers of the check: n and m.
 #[repr(C)]
@@ -199,21 +197,21 @@ pub extern "C" fn cogsplice_core(
 
 #[no_mangle]
 pub extern "C" fn cogsplice_level(file: &[u8], x: u16, work: &mut [u16]) -> LevelNumbers
-    ensures { λ r. ⌜ Told (LevelCall (levelRefusalOf (now (file .entry)) x (length (now (work .entry)))) (now (file .entry)) Targets x (now (work .entry)) (now (work .exit))) levelNumbers (ofLevel r) ⌝ }
+    ensures { λ r. ⌜ Told (LevelCall (now (file .entry)) x (now (work .entry)) (now (work .exit))) levelNumbers (ofLevel r) ⌝ }
 {
     level_numbers(cogsplice::level(file, x, work))
 }
 
 #[no_mangle]
 pub extern "C" fn cogsplice_level_across(file: &[u8], y: u16, work: &mut [u16]) -> LevelNumbers
-    ensures { λ r. ⌜ Told (LevelCall (levelRefusalOf (now (file .entry)) y (length (now (work .entry)))) (now (file .entry)) Sources y (now (work .entry)) (now (work .exit))) levelNumbers (ofLevel r) ⌝ }
+    ensures { λ r. ⌜ Told (LevelAcrossCall (now (file .entry)) y (now (work .entry)) (now (work .exit))) levelNumbers (ofLevel r) ⌝ }
 {
     level_numbers(cogsplice::level_across(file, y, work))
 }
 
 #[no_mangle]
 pub extern "C" fn cogsplice_equal_level(file: &[u8], work: &mut [u16]) -> LevelNumbers
-    ensures { λ r. ⌜ Told (LevelCall (equalRefusalOf (now (file .entry)) (length (now (work .entry)))) (now (file .entry)) Both 0 (now (work .entry)) (now (work .exit))) levelNumbers (ofLevel r) ⌝ }
+    ensures { λ r. ⌜ Told (EqualLevelCall (now (file .entry)) (now (work .entry)) (now (work .exit))) levelNumbers (ofLevel r) ⌝ }
 {
     level_numbers(cogsplice::equal_level(file, work))
 }

@@ -16,15 +16,7 @@ use cogsplice::Totals;
 use cogsplice::WriteAnswer;
 ghost use mathlib.Core.List.{_∷_};
 ghost use mathlib.Core.Path.{_≡_};
-ghost use Rattle.network.specs.Answers.{refused};
-ghost use Rattle.network.specs.Checks.{checkNumbers};
-ghost use Rattle.network.specs.Counts.{countNumbers};
-ghost use Rattle.network.specs.Writes.{writeNumbers};
-ghost use Rattle.adjacency.specs.Indexes.{indexNumbers};
-ghost use Rattle.peeling.specs.Groups.{totalsNumbers};
-ghost use Rattle.cores.specs.Calls.{coreNumbers, levelNumbers};
-ghost use Rattle.finding.specs.Findings.{findingNumbers};
-ghost use Rattle.cogsplice_c.specs.Told.{ofCheck, ofTotals, ofWrite, ofIndex, ofLevel, ofFinding};
+ghost use Rattle.cogsplice_c.specs.Told.{refused, totalsNumbers, checkNumbers, countNumbers, writeNumbers, indexNumbers, coreNumbers, levelNumbers, findingNumbers, ofCheck, ofTotals, ofWrite, ofIndex, ofLevel, ofFinding};
 
 pub fn check_numbers(answer: CheckAnswer) -> CheckNumbers
     ensures { λ r. ⌜ ofCheck r ≡ checkNumbers answer ⌝ }

@@ -1,7 +1,7 @@
--- The calls on cores and levels: each refusal under its condition, and how the answers are told.
+-- The calls on cores and levels: each refusal under its condition, and what an accepted core call has done.
 use Prim.Native.Nat.{ℕ, _+_, _*_, _<_, _≤_}
 use mathlib.Core.Bool.{Bool, true, false, cond, _||_, or-true}
-use mathlib.Core.List.{List, _∷_, _++_}
+use mathlib.Core.List.{List}
 use mathlib.Core.Logic.{_≢_}
 use mathlib.Core.Path.{_≡_, refl, sym, ap, subst, _∙_}
 use native.Mathlib.Omega.{arith}
@@ -9,25 +9,21 @@ use borrow.Author.Tests.{ltb-false, lt-ltb, le-ltb, eq-eqb, ne-eqb}
 use lib.Dec.{eqb, ltb}
 use lib.ListN.{length, drop}
 use Rattle.graph.specs.Graph.{Graph}
+use Rattle.graph.specs.Core.{Core}
 use Rattle.network.specs.declared.Refusal.{Refusal}
 use Rattle.network.specs.declared.Totals.{Totals}
 use Rattle.network.specs.File.{graphOf, groupOf, none, plain, fileRefusal}
 use Rattle.network.specs.Refusals.{orElse, workLength, coreRefusal, levelRefusal, equalLevelRefusal}
-use Rattle.network.specs.Tables.{bytesOf}
+use Rattle.network.specs.Tables.{GroupIn}
 use Rattle.network.specs.Sides.{Sound}
 use Rattle.network.proofs.Accepted.{accepted-orElse, cond-none, or-fails, Proper, file-proper, cond-proper, none-proper, orElse-proper}
-use Rattle.network.proofs.Answers.{refusal-some, answers-refused, answers-accepted, orElse-first, orElse-second}
+use Rattle.network.proofs.Answers.{refusal-some, orElse-first, orElse-second}
 use Rattle.network.proofs.Headers.{accepted-sound}
-use Rattle.peeling.specs.declared.Rise.{Rise}
 use Rattle.peeling.specs.declared.Scope.{Scope}
 use Rattle.peeling.specs.Peeling.{Small, Rows, Tabled, Kept}
 use Rattle.peeling.specs.Groups.{CoreIn}
-use Rattle.peeling.specs.Climbs.{Climbed}
-use Rattle.peeling.proofs.Levels.{climbed-level}
-use Rattle.cores.specs.declared.CoreAnswer.the-variants.{Done, Refused}
-use Rattle.cores.specs.declared.LevelAnswer as answer
 use Rattle.cores.specs.Places.{Places}
-use Rattle.cores.specs.Calls.{CoreCall, Levelled, LevelCall, WorkKept}
+use Rattle.cores.specs.Calls.{WorkKept, GroupsTold}
 use Rattle.cores.proofs.PlacesIndexed.{places-indexed}
 
 -- where a test for 9 stands between two refusals, the first two may be read as one
@@ -152,69 +148,15 @@ work-kept f w w₁ w₂ {n} {m} i j l d k =
     let c : 2 * m + 6 * n + 2 ≡ workLength (graphOf f) = rw (i, j) in
     (k .same-length ∙ l, subst (λ c. drop c w₂ ≡ drop c w₁) c (k .past) ∙ d)
 
--- a refused core call leaves the tables as they were
-pub core-refused : {f s t w : List ℕ} {x y : ℕ} {q : Refusal} → q ≡ coreRefusal f (length s) (length t) (length w) → q .number ≢ 0 → CoreCall f x y s s t t w w (Refused q)
-core-refused {f} {s} {t} {w} {x} {y} {q} e n =
-    record {
-      numbers = answers-refused _ e n;
-      proper = λ p i. refusal-some (rw (same p i) at n);
-      unchanged = λ h. (refl, refl, refl);
-      core = λ h. absurd (refusal-some n (e ∙ h));
-      sources = λ h. absurd (refusal-some n (e ∙ h));
-      targets = λ h. absurd (refusal-some n (e ∙ h));
-      work = λ h. absurd (refusal-some n (e ∙ h));
-    }
-  where
-    same : (p : Refusal) → Refused q ≡ Refused p → q ≡ p
-    same p i = cc
-
--- an accepted one writes the core of the file's network
-pub core-done : {f s s′ t t′ w w₁ w₂ : List ℕ} {x y : ℕ} {c : Scope} {r : Totals} → coreRefusal f (length s) (length t) (length w) ≡ none
-    → Tabled (graphOf f) (c .order) (c .size) w₁ → x ≡ c .x → y ≡ c .y → WorkKept f w w₂ → CoreIn c w₁ w₂ s s′ t t′ r → CoreCall f x y s s′ t t′ w w₂ (Done r)
-core-done {f} {s} {s′} {t} {t′} {c = c} {r = r} e b p q k i =
-    record {
-      numbers = answers-accepted e (ap (λ v. 0 ∷ 0 ∷ v) (i .counted (graphOf f) b));
-      proper = λ u v. absurd (never u v);
-      unchanged = λ h. absurd (h e);
-      core = λ h. rw (p, q) (i .core (graphOf f) b);
-      sources = λ h. subst (λ n. s′ ≡ bytesOf n (groupOf s′) ++ drop n s) (sym (b .order)) (i .sources);
-      targets = λ h. subst (λ n. t′ ≡ bytesOf n (groupOf t′) ++ drop n t) (sym (b .order)) (i .targets);
-      work = λ h. k;
-    }
-  where
-    never : (u : Refusal) → Done r ≡ Refused u → ⊥
-    never u v = let z : _≡_ {A = ℕ} 0 1 = cc in omega arith
-
--- the level of a climb from 1
-pub climb-levelled : {f : List ℕ} {rise : Rise} {fixed : ℕ} {w w₁ w₂ : List ℕ} {n m k : ℕ} → Tabled (graphOf f) n m w₁ → WorkKept f w w₂ → Climbed n m rise fixed 1 w₁ w₂ k
-    → Levelled f rise fixed w w₂ k
-climb-levelled {f} {rise} {fixed} b k c = record { level = climbed-level rise fixed 1 c (λ h. h) b; work = k }
-
--- a refused level call
-pub level-refused : {refusal : Refusal} {f w : List ℕ} {rise : Rise} {fixed : ℕ} {q : Refusal} → q ≡ refusal → q .number ≢ 0 → LevelCall refusal f rise fixed w w (answer.the-variants.Refused q)
-level-refused {q = q} e n =
-    record {
-      numbers = answers-refused _ e n;
-      proper = λ p i. refusal-some (rw (same p i) at n);
-      unchanged = λ h. refl;
-      level = λ h. absurd (refusal-some n (e ∙ h));
-      work = λ h. absurd (refusal-some n (e ∙ h));
-    }
-  where
-    same : (p : Refusal) → answer.the-variants.Refused q ≡ answer.the-variants.Refused p → q ≡ p
-    same p i = cc
-
--- an accepted one
-pub level-done : {refusal : Refusal} {f w w′ : List ℕ} {rise : Rise} {fixed k : ℕ} → refusal ≡ none → Levelled f rise fixed w w′ k
-    → LevelCall refusal f rise fixed w w′ (answer.the-variants.At k)
-level-done {k = k} e l =
-    record {
-      numbers = answers-accepted e refl;
-      proper = λ u v. absurd (never u v);
-      unchanged = λ h. absurd (h e);
-      level = λ h. l .level;
-      work = λ h. l .work;
-    }
-  where
-    never : (u : Refusal) → answer.the-variants.At k ≡ answer.the-variants.Refused u → ⊥
-    never u v = let z : _≡_ {A = ℕ} 0 1 = cc in omega arith
+-- an accepted core call writes the core of the file's network
+pub core-done : {f s s′ t t′ w w₁ w₂ : List ℕ} {x y : ℕ} {c : Scope} {r : Totals} → Tabled (graphOf f) (c .order) (c .size) w₁ → x ≡ c .x → y ≡ c .y → WorkKept f w w₂
+    → CoreIn c w₁ w₂ s s′ t t′ r → Core (graphOf f) x y (groupOf s′) (groupOf t′) × GroupsTold f s s′ t t′ w w₂ r
+core-done {f} {s} {s′} {t} {t′} b p q k i = (
+  rw (p, q) (i .core (graphOf f) b),
+  record {
+    counted = i .counted (graphOf f) b;
+    sources = subst (λ n. GroupIn n s s′) (sym (b .order)) (i .sources);
+    targets = subst (λ n. GroupIn n t t′) (sym (b .order)) (i .targets);
+    work = k;
+  },
+)

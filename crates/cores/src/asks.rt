@@ -17,7 +17,8 @@ ghost use Rattle.graph.specs.Order.{Sorted, precedes};
 ghost use Rattle.network.specs.File.{graphOf, none};
 ghost use Rattle.network.specs.Refusals.{workLength};
 ghost use Rattle.network.specs.Sides.{Sound};
-ghost use Rattle.cores.specs.Calls.{coreRefusalOf, levelRefusalOf, equalRefusalOf, CoreCall, LevelCall, Levelled};
+ghost use Rattle.peeling.specs.Climbs.{LevelOf};
+ghost use Rattle.cores.specs.Calls.{coreRefusalOf, levelRefusalOf, equalRefusalOf, WorkKept, CoreCall, LevelBy, LevelCall, LevelAcrossCall, EqualLevelCall};
 
 // 01: the length of the work table.
 fn work_length(file: &[u8]) -> usize
@@ -93,7 +94,7 @@ fn level_of(file: &[u8], by_source: &[u16], rise: Rise, fixed: usize, work: &mut
     requires { ⌜ graphOf (now file) .size ≤ length (now «by_source») ⌝ }
     requires { ⌜ Sorted (precedes (graphOf (now file))) (graphOf (now file) .size) (now «by_source») ⌝ }
     requires { ⌜ workLength (graphOf (now file)) ≤ length (now work) ⌝ }
-    ensures { λ r. ⌜ Levelled (now (file .entry)) rise fixed (now (work .entry)) (now (work .exit)) r ⌝ }
+    ensures { λ r. ⌜ LevelOf (graphOf (now (file .entry))) rise fixed r × WorkKept (now (file .entry)) (now (work .entry)) (now (work .exit)) ⌝ }
 {
     index_places(file, by_source, work);
     climb(work, u16_at(file, 5), u16_at(file, 7), rise, fixed, 1)
@@ -101,7 +102,7 @@ fn level_of(file: &[u8], by_source: &[u16], rise: Rise, fixed: usize, work: &mut
 
 // The level of x or the level across of y.
 fn level_along(file: &[u8], rise: Rise, fixed: u16, work: &mut [u16]) -> LevelAnswer
-    ensures { λ r. ⌜ LevelCall (levelRefusalOf (now (file .entry)) fixed (length (now (work .entry)))) (now (file .entry)) rise fixed (now (work .entry)) (now (work .exit)) r ⌝ }
+    ensures { λ r. ⌜ LevelBy (levelRefusalOf (now (file .entry)) fixed (length (now (work .entry)))) (now (file .entry)) (LevelOf (graphOf (now (file .entry))) rise fixed) (now (work .entry)) (now (work .exit)) r ⌝ }
 {
     let mut by_source = [0u16; 8192];
     let refusal = equal_refusal(file, work.len(), &mut by_source);
@@ -119,21 +120,21 @@ fn level_along(file: &[u8], rise: Rise, fixed: u16, work: &mut [u16]) -> LevelAn
 
 // 01: the level of x.
 pub fn level(file: &[u8], x: u16, work: &mut [u16]) -> LevelAnswer
-    ensures { λ r. ⌜ LevelCall (levelRefusalOf (now (file .entry)) x (length (now (work .entry)))) (now (file .entry)) Rise.Targets x (now (work .entry)) (now (work .exit)) r ⌝ }
+    ensures { λ r. ⌜ LevelCall (now (file .entry)) x (now (work .entry)) (now (work .exit)) r ⌝ }
 {
     level_along(file, Rise::Targets, x, work)
 }
 
 // 01: the level across, for y.
 pub fn level_across(file: &[u8], y: u16, work: &mut [u16]) -> LevelAnswer
-    ensures { λ r. ⌜ LevelCall (levelRefusalOf (now (file .entry)) y (length (now (work .entry)))) (now (file .entry)) Rise.Sources y (now (work .entry)) (now (work .exit)) r ⌝ }
+    ensures { λ r. ⌜ LevelAcrossCall (now (file .entry)) y (now (work .entry)) (now (work .exit)) r ⌝ }
 {
     level_along(file, Rise::Sources, y, work)
 }
 
 // 01: the equal level.
 pub fn equal_level(file: &[u8], work: &mut [u16]) -> LevelAnswer
-    ensures { λ r. ⌜ LevelCall (equalRefusalOf (now (file .entry)) (length (now (work .entry)))) (now (file .entry)) Rise.Both 0 (now (work .entry)) (now (work .exit)) r ⌝ }
+    ensures { λ r. ⌜ EqualLevelCall (now (file .entry)) (now (work .entry)) (now (work .exit)) r ⌝ }
 {
     let mut by_source = [0u16; 8192];
     let refusal = equal_refusal(file, work.len(), &mut by_source);

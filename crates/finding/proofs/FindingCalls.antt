@@ -1,19 +1,21 @@
 -- The finding call: its refusals under their conditions, and how its answers are told.
 use Prim.Native.Nat.{ℕ, zero, suc, _≤_}
-use mathlib.Core.List.{List, _∷_, _++_}
+use mathlib.Core.List.{List}
 use mathlib.Core.Logic.{_≢_, _↔_}
-use mathlib.Core.Path.{_≡_, refl, sym, ap, subst, _∙_}
+use mathlib.Core.Path.{_≡_, refl, sym, subst, _∙_}
 use native.Mathlib.Omega.{arith}
 use borrow.Author.Tests.{eq-eqb, ne-eqb}
-use lib.ListN.{length, drop}
+use lib.ListN.{length}
 use Rattle.graph.proofs.Sums.{sum-ones}
 use Rattle.graph.proofs.Density.{finding-bounds}
 use Rattle.network.specs.declared.Refusal.{Refusal}
-use Rattle.network.specs.File.{graphOf, groupOf, none, plain}
+use Rattle.network.specs.File.{graphOf, none, plain}
 use Rattle.network.specs.Refusals.{coreRefusal, findingRefusal}
-use Rattle.network.specs.Tables.{bytesOf}
+use Rattle.network.specs.Tables.{GroupIn}
+use Rattle.network.specs.Calls.{IsRefused}
+use Rattle.network.specs.Calls as call
 use Rattle.network.proofs.Accepted.{Proper, core-proper, cond-proper, none-proper, orElse-proper, orElse-both}
-use Rattle.network.proofs.Answers.{refusal-some, answers-refused, answers-accepted, orElse-first, orElse-second}
+use Rattle.network.proofs.Answers.{refusal-some, call-refused, orElse-first, orElse-second}
 use Rattle.peeling.specs.Peeling.{Tabled}
 use Rattle.cores.specs.Calls.{WorkKept}
 use Rattle.finding.specs.declared.FindingAnswer.the-variants.{Found, Refused}
@@ -67,20 +69,9 @@ module _ (f : List ℕ) (s t w : ℕ) where
 pub finding-refused : {f s t w : List ℕ} {q : Refusal} → q ≡ findingRefusal f (length s) (length t) (length w) → q .number ≢ 0 → FindingCall f s s t t w w (Refused q)
 finding-refused {f} {s} {t} {w} {q} e n =
     record {
-      numbers = answers-refused _ e n;
-      proper = λ p i. refusal-some (rw (same p i) at n);
-      linkless = refused-linkless f (length s) (length t) (length w);
-      unchanged = λ h. (refl, refl, refl);
-      finding = λ h. absurd (refusal-some n (e ∙ h));
-      equal = λ h. absurd (refusal-some n (e ∙ h));
-      bounds = λ h. absurd (refusal-some n (e ∙ h));
-      sources = λ h. absurd (refusal-some n (e ∙ h));
-      targets = λ h. absurd (refusal-some n (e ∙ h));
-      work = λ h. absurd (refusal-some n (e ∙ h));
+      call = call-refused e n;
+      linkless = λ h. (λ i. refused-linkless f _ _ _ h .0 (λ z. refusal-some n (e ∙ z)), λ i. record { refusal = q; told = refl });
     }
-  where
-    same : (p : Refusal) → Refused q ≡ Refused p → q ≡ p
-    same p i = cc
 
 -- an accepted one writes the finding of the file's network
 pub finding-done : {f s s′ t t′ w w₁ w₂ : List ℕ} {n m : ℕ} {r : Ring} → findingRefusal f (length s) (length t) (length w) ≡ none → Tabled (graphOf f) n m w₁
@@ -88,17 +79,19 @@ pub finding-done : {f s s′ t t′ w w₁ w₂ : List ℕ} {n m : ℕ} {r : Rin
 finding-done {f} {s} {s′} {t} {t′} {w} {r = r} e b k i =
     let found = i .finding (graphOf f) b (omega (arith, sum-ones (graphOf f .size), finding-links f (length s) (length t) (length w) e)) in
     record {
-      numbers = answers-accepted e (ap (λ v. 0 ∷ 0 ∷ r .x ∷ r .y ∷ r .equal ∷ v) (i .counted (graphOf f) b));
-      proper = λ u v. absurd (never u v);
-      linkless = refused-linkless f (length s) (length t) (length w);
-      unchanged = λ h. absurd (h e);
-      finding = λ h. found;
-      equal = λ h. i .equal (graphOf f) b;
-      bounds = λ h. finding-bounds (b .closed) found;
-      sources = λ h. subst (λ n. s′ ≡ bytesOf n (groupOf s′) ++ drop n s) (sym (b .order)) (i .sources);
-      targets = λ h. subst (λ n. t′ ≡ bytesOf n (groupOf t′) ++ drop n t) (sym (b .order)) (i .targets);
-      work = λ h. k;
+      call = call.accepted r e refl (record {
+        finding = found;
+        equal = i .equal (graphOf f) b;
+        bounds = finding-bounds (b .closed) found;
+        groups = record {
+          counted = i .counted (graphOf f) b;
+          sources = subst (λ n. GroupIn n s s′) (sym (b .order)) (i .sources);
+          targets = subst (λ n. GroupIn n t t′) (sym (b .order)) (i .targets);
+          work = k;
+        };
+      });
+      linkless = λ h. (λ u. absurd (never u), λ z. absurd (refused-linkless f _ _ _ h .1 z e));
     }
   where
-    never : (u : Refusal) → Found r ≡ Refused u → ⊥
-    never u v = let z : _≡_ {A = ℕ} 0 1 = cc in omega arith
+    never : IsRefused Refused (Found r) → ⊥
+    never u = let h = u .told in let z : _≡_ {A = ℕ} 0 1 = cc in omega arith

@@ -8,12 +8,12 @@ use Rattle.graph.specs.Search as search
 use Rattle.network.specs.declared.Side.{Side}
 use Rattle.network.specs.declared.Side.the-variants.{Source, Target}
 use Rattle.network.specs.File.{groupOf}
+use Rattle.network.specs.Tables.{GroupIn}
 use Rattle.network.specs.Counts.{totals}
 use Rattle.peeling.specs.declared.Rise.{Rise}
 use Rattle.peeling.specs.declared.Rise.the-variants.{Targets, Sources}
 use Rattle.peeling.specs.Peeling.{Tabled, Kept}
 use Rattle.peeling.specs.Climbs.{ofSources, ofTargets}
-use Rattle.peeling.specs.Groups.{Written, totalsNumbers}
 use Rattle.finding.specs.declared.Best.{Best}
 use Rattle.finding.specs.declared.Ring.{Ring}
 
@@ -62,7 +62,7 @@ pub record Searched (n m k : ℕ) (w w′ : List ℕ) (r : Best) : Type 0 where
 pub record Found (n m : ℕ) (w w′ s s′ t t′ : List ℕ) (r : Ring) : Type 0 where
   pub finding : (g : Graph) → Tabled g n m w → 1 ≤ total g → Finding g (r .x) (r .y) (groupOf s′) (groupOf t′)
   pub equal : (g : Graph) → Tabled g n m w → EqualLevel g (r .equal)
-  pub counted : (g : Graph) → Tabled g n m w → totalsNumbers (r .totals) ≡ totals g (groupOf s′) (groupOf t′)
-  pub sources : Written n s s′
-  pub targets : Written n t t′
+  pub counted : (g : Graph) → Tabled g n m w → r .totals ≡ totals g (groupOf s′) (groupOf t′)
+  pub sources : GroupIn n s s′
+  pub targets : GroupIn n t t′
   pub kept : Kept n m w w′

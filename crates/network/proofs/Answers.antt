@@ -1,47 +1,22 @@
--- The numbers of an answer: how those of a refused and of an accepted call are told.
+-- The refusals of calls: how a refused call is told, and which of two refusals is that of a call.
 use Prim.Native.Nat.{ℕ}
-use mathlib.Core.List.{List, _∷_, map}
+use mathlib.Core.List.{List}
 use mathlib.Core.Logic.{_≢_}
-use mathlib.Core.Path.{_≡_, ap, _∙_}
-use native.Mathlib.Omega.{arith}
-use Rattle.network.specs.declared.Refusal.{Refusal}
-use Rattle.network.specs.declared.CheckAnswer.the-variants.{Accepted, Refused}
-use Rattle.network.specs.File.{graphOf, none, fileRefusal}
+use mathlib.Core.Path.{_≡_, refl, ap}
 use borrow.Author.Tests.{ne-eqb}
+use Rattle.network.specs.declared.Refusal.{Refusal}
+use Rattle.network.specs.File.{none}
 use Rattle.network.specs.Refusals.{orElse}
-use Rattle.network.specs.Answers.{Answers}
-use Rattle.network.specs.Checks.{CheckCall}
+use Rattle.network.specs.Calls.{Call, refused}
 
 -- a refusal of a number that is not 0 is one
 pub refusal-some : {r : Refusal} → r .number ≢ 0 → r ≢ none
 refusal-some n e = n (ap (λ t. t .number) e)
 
--- a refused call tells its refusal and zeros
-pub answers-refused : {r q : Refusal} (values : List ℕ) → q ≡ r → q .number ≢ 0 → Answers r values (q .number ∷ q .link ∷ map (λ v. 0) values)
-answers-refused values e n =
-    record { refused = λ h. ap (λ t. t .number ∷ t .link ∷ map (λ v. 0) values) e; accepted = λ h. absurd (refusal-some n (e ∙ h)) }
-
--- an accepted call tells 0, 0 and its values
-pub answers-accepted : {r : Refusal} {values numbers : List ℕ} → r ≡ none → numbers ≡ 0 ∷ 0 ∷ values → Answers r values numbers
-answers-accepted e q = record { refused = λ h. absurd (h e); accepted = λ h. q }
-
--- the check refuses
-pub check-refused : {f : List ℕ} {q : Refusal} → q ≡ fileRefusal f → q .number ≢ 0 → CheckCall f (Refused q)
-check-refused {f} {q} e n = record { numbers = answers-refused _ e n; proper = λ p i. refusal-some (rw (same p i) at n) }
-  where
-    same : (p : Refusal) → Refused q ≡ Refused p → q ≡ p
-    same p i = cc
-
--- or accepts
-pub check-accepted : {f : List ℕ} {n m : ℕ} → fileRefusal f ≡ none → n ≡ graphOf f .order → m ≡ graphOf f .size → CheckCall f (Accepted n m)
-check-accepted {f} {n} {m} e p q =
-    record {
-      numbers = answers-accepted e (rw (p, q));
-      proper = λ r i. absurd (never r i);
-    }
-  where
-    never : (r : Refusal) → Accepted n m ≡ Refused r → ⊥
-    never r i = let z : _≡_ {A = ℕ} 0 1 = cc in omega arith
+-- a call that answers a refusal, and leaves its tables, is refused by it
+pub call-refused : {Answer Value : Type 0} {refusal q : Refusal} {tells : Refusal → Answer} {answers : Value → Answer} {before : List (List ℕ)} {done : Value → Type 0}
+    → q ≡ refusal → q .number ≢ 0 → Call refusal tells answers before before done (tells q)
+call-refused {tells = tells} e n = refused (rw e at n) (ap tells e) refl
 
 -- an earlier refusal is that of the call
 pub orElse-first : {r : Refusal} (s : Refusal) → r .number ≢ 0 → orElse r s ≡ r

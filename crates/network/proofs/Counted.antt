@@ -1,20 +1,15 @@
--- The count call: each refusal under its condition, and how its answer is told.
+-- The count call: each refusal under its condition, and when two counts are the same.
 use Prim.Native.Nat.{ℕ, _<_, _≤_}
 use mathlib.Core.Bool.{true, false, or-true, and-false}
 use mathlib.Core.List.{List}
 use mathlib.Core.Logic.{_≢_}
 use mathlib.Core.Path.{_≡_, sym, _∙_}
-use native.Mathlib.Omega.{arith}
 use borrow.Author.Tests.{lt-ltb, le-ltb}
 use lib.ListN.{length}
-use Rattle.graph.specs.Graph.{card, edges}
-use Rattle.network.specs.declared.Refusal.{Refusal}
 use Rattle.network.specs.declared.Totals.{Totals}
-use Rattle.network.specs.declared.CountAnswer.the-variants.{Counted, Refused}
-use Rattle.network.specs.File.{graphOf, groupOf, none, plain, fileRefusal}
+use Rattle.network.specs.File.{graphOf, none, plain, fileRefusal}
 use Rattle.network.specs.Refusals.{isGroup, countRefusal}
-use Rattle.network.specs.Counts.{CountCall}
-use Rattle.network.proofs.Answers.{refusal-some, answers-refused, answers-accepted, orElse-first, orElse-second}
+use Rattle.network.proofs.Answers.{orElse-first, orElse-second}
 
 -- the file's own refusal comes first
 pub count-file : (f s t : List ℕ) → fileRefusal f .number ≢ 0 → fileRefusal f ≡ countRefusal f s t
@@ -48,17 +43,9 @@ module _ (f s t : List ℕ) (e : fileRefusal f ≡ none) where
     unfolding countRefusal
     count-none a b = orElse-second _ e ∙ rw (le-ltb (length s) (graphOf f .order) p, le-ltb (length t) (graphOf f .order) q, a, b)
 
--- a refused count
-pub count-refused : {f s t : List ℕ} {q : Refusal} → q ≡ countRefusal f s t → q .number ≢ 0 → CountCall f s t (Refused q)
-count-refused {f} {s} {t} {q} e n = record { numbers = answers-refused _ e n; proper = λ p i. refusal-some (rw (same p i) at n) }
+-- E, |S| and |T| are those of another count where each of the three is
+pub totals-same : {a b : Totals} → a .edges ≡ b .edges → a .sources ≡ b .sources → a .targets ≡ b .targets → a ≡ b
+totals-same {a} {b} e s t = alike
   where
-    same : (p : Refusal) → Refused q ≡ Refused p → q ≡ p
-    same p i = cc
-
--- an accepted one
-pub count-accepted : {f s t : List ℕ} (c : Totals) → countRefusal f s t ≡ none → c .edges ≡ edges (graphOf f) (groupOf s) (groupOf t) → c .sources ≡ card (graphOf f) (groupOf s)
-    → c .targets ≡ card (graphOf f) (groupOf t) → CountCall f s t (Counted c)
-count-accepted c e p q r = record { numbers = answers-accepted e (rw (p, q, r)); proper = λ t i. absurd (never t i) }
-  where
-    never : (r : Refusal) → Counted c ≡ Refused r → ⊥
-    never r i = let z : _≡_ {A = ℕ} 0 1 = cc in omega arith
+    alike : _≡_ {A = Totals} (record { edges = a .edges; sources = a .sources; targets = a .targets }) (record { edges = b .edges; sources = b .sources; targets = b .targets })
+    alike = rw (e, s, t)

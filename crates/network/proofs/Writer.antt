@@ -1,21 +1,20 @@
--- The writer: each refusal under its condition, and how its answer is told; and a file written and read again holds the same links.
+-- The writer: each refusal under its condition; and a file written and read again holds the same links.
 use Prim.Native.Nat.{ℕ, _<_, _≤_}
 use mathlib.Core.List.{List, _++_}
 use mathlib.Core.Logic.{_≢_}
-use mathlib.Core.Path.{_≡_, refl, sym, ap, _∙_}
+use mathlib.Core.Path.{_≡_, sym, ap, _∙_}
 use native.Mathlib.Omega.{arith}
 use borrow.Author.Tests.{lt-ltb, le-ltb}
 use lib.ListN.{length, take, drop}
 use lib.Seq.{sets, take-at}
-use Rattle.network.specs.declared.Refusal.{Refusal}
-use Rattle.network.specs.declared.WriteAnswer.{WriteAnswer}
-use Rattle.network.specs.declared.WriteAnswer.the-variants.{Written, Refused}
+use Rattle.network.specs.declared.WriteAnswer.the-variants.{Written}
 use Rattle.network.specs.File.{graphOf, none, plain, fileRefusal}
 use Rattle.network.specs.Refusals.{fileLength, writeRefusal}
 use Rattle.network.specs.Tables.{written}
+use Rattle.network.specs.Calls.{refused, accepted}
 use Rattle.network.specs.Writes.{WriteCall}
 use Rattle.network.proofs.Accepted.{accepted-orElse}
-use Rattle.network.proofs.Answers.{refusal-some, answers-refused, answers-accepted, orElse-first, orElse-second}
+use Rattle.network.proofs.Answers.{orElse-first, orElse-second}
 use Rattle.network.proofs.Puts.{sets-front}
 use Rattle.network.proofs.Written.{length-written, WrittenSame, written-same}
 
@@ -34,36 +33,16 @@ pub write-none : (f : List ℕ) (o : ℕ) → fileRefusal f ≡ none → fileLen
 unfolding writeRefusal
 write-none f o e l = orElse-second _ e ∙ rw (le-ltb o (fileLength (graphOf f)) l)
 
--- a refused writer leaves the output as it was
-pub write-refused : {f out : List ℕ} {q : Refusal} → q ≡ writeRefusal f (length out) → q .number ≢ 0 → WriteCall f out out (Refused q)
-write-refused {f} {out} {q} e n =
-    record {
-      numbers = answers-refused _ e n;
-      proper = λ p i. refusal-some (rw (same p i) at n);
-      unchanged = λ h. refl;
-      file = λ h. absurd (refusal-some n (e ∙ h));
-    }
-  where
-    same : (p : Refusal) → Refused q ≡ Refused p → q ≡ p
-    same p i = cc
-
--- an accepted one has stored the ordered file
-pub write-accepted : {f out out′ : List ℕ} {m : ℕ} → writeRefusal f (length out) ≡ none → m ≡ graphOf f .size → fileLength (graphOf f) ≤ length out
-    → out′ ≡ sets out 0 (written (graphOf f)) → WriteCall f out out′ (Written m)
-write-accepted {f} {out} {out′} {m} e p l q =
-    record {
-      numbers = answers-accepted e (rw p);
-      proper = λ r i. absurd (never r i);
-      unchanged = λ h. absurd (h e);
-      file = λ h. q ∙ sets-front out (written (graphOf f)) (omega (arith, length-written (graphOf f))) ∙ ap (λ k. written (graphOf f) ++ drop k out) (length-written (graphOf f));
-    }
-  where
-    never : (r : Refusal) → Written m ≡ Refused r → ⊥
-    never r i = let z : _≡_ {A = ℕ} 0 1 = cc in omega arith
+-- what is stored over the first bytes of the output stands before the rest
+pub write-stored : (f out : List ℕ) {out′ : List ℕ} → fileLength (graphOf f) ≤ length out → out′ ≡ sets out 0 (written (graphOf f))
+    → out′ ≡ written (graphOf f) ++ drop (fileLength (graphOf f)) out
+write-stored f out l q =
+    q ∙ sets-front out (written (graphOf f)) (omega (arith, length-written (graphOf f))) ∙ ap (λ k. written (graphOf f) ++ drop k out) (length-written (graphOf f))
 
 -- condition 2, last sentence: where the writer is not refused, the bytes it wrote are an accepted file with the same links
-pub write-read : {f out out′ : List ℕ} {r : WriteAnswer} → WriteCall f out out′ r → writeRefusal f (length out) ≡ none → WrittenSame f (take (fileLength (graphOf f)) out′)
+pub write-read : {f out out′ : List ℕ} {m : ℕ} → WriteCall f out out′ (Written m) → WrittenSame f (take (fileLength (graphOf f)) out′)
 unfolding writeRefusal
-write-read {f} {out} {out′} c e =
-    rw (c .file e, take-at (written (graphOf f)) (drop (fileLength (graphOf f)) out) (fileLength (graphOf f)) (length-written (graphOf f)))
+write-read (refused n i k) = absurd (let z : _≡_ {A = ℕ} 0 1 = cc in omega arith)
+write-read {f} {out} (accepted m e i (p, q)) =
+    rw (q, take-at (written (graphOf f)) (drop (fileLength (graphOf f)) out) (fileLength (graphOf f)) (length-written (graphOf f)))
     (written-same (accepted-orElse f _ .0 e .0))

@@ -1,28 +1,21 @@
 -- What the check of a file promises, and what its steps leave.
 use Prim.Native.Nat.{ℕ, _+_, _*_, _≤_}
 use mathlib.Core.Bool.{Bool, true}
-use mathlib.Core.List.{List, [], _∷_}
+use mathlib.Core.List.{List, []}
 use mathlib.Core.Logic.{_≢_}
 use mathlib.Core.Path.{_≡_}
 use lib.Dec.{ltb}
 use lib.ListN.{length}
 use Rattle.graph.specs.Graph.{Graph}
 use Rattle.graph.specs.Order.{lexicographic}
-use Rattle.network.specs.declared.Refusal.{Refusal}
 use Rattle.network.specs.declared.CheckAnswer.{CheckAnswer}
 use Rattle.network.specs.declared.CheckAnswer.the-variants.{Accepted, Refused}
-use Rattle.network.specs.File.{u16At, graphOf, marked, none, plain, fileRefusal}
-use Rattle.network.specs.Answers.{Answers, refused}
+use Rattle.network.specs.File.{u16At, graphOf, marked, plain, fileRefusal}
+use Rattle.network.specs.Calls.{Call}
 
--- 01's numbers of the check's answer: the refusal and its link, then n and m
-abbrev pub checkNumbers : CheckAnswer → List ℕ
-checkNumbers (Accepted n m) = 0 ∷ 0 ∷ n ∷ m ∷ []
-checkNumbers (Refused r) = refused r 2
-
--- the check: n and m of an accepted file, or its refusal
-pub record CheckCall (f : List ℕ) (r : CheckAnswer) : Type 0 where
-  pub numbers : Answers (fileRefusal f) (graphOf f .order ∷ graphOf f .size ∷ []) (checkNumbers r)
-  pub proper : (q : Refusal) → r ≡ Refused q → q ≢ none
+-- the check: n and m of an accepted file
+abbrev pub CheckCall : List ℕ → CheckAnswer → Type 0
+CheckCall f = Call (fileRefusal f) Refused (λ (n, m). Accepted n m) [] [] (λ (n, m). (n ≡ graphOf f .order) × (m ≡ graphOf f .size))
 
 -- what the numbers 1 to 6 leave
 pub record Header (f : List ℕ) : Type 0 where

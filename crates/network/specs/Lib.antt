@@ -1,7 +1,7 @@
 pub mod File
 pub mod Refusals
 pub mod Tables
-pub mod Answers
+pub mod Calls
 pub mod Checks
 pub mod Counts
 pub mod Writes

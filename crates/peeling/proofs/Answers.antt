@@ -18,6 +18,7 @@ use Rattle.graph.proofs.Exists.{core-same}
 use Rattle.network.specs.declared.Totals.{Totals}
 use Rattle.network.specs.File.{groupOf}
 use Rattle.network.specs.Tables.{bytesOf}
+use Rattle.network.proofs.Counted.{totals-same}
 use Rattle.peeling.specs.declared.Peel.{Peel}
 use Rattle.peeling.specs.declared.Scope.{Scope}
 use Rattle.peeling.specs.Peeling.{degreeOf, left, Indexed, Tabled, Peeling, Ended}
@@ -88,11 +89,12 @@ module _ {c : Scope} {w w′ s′ t′ : List ℕ} {p : Peel} {r : Totals} (s t 
   core-in =
       record {
         core = λ g k. ended-core e k (bytes-source k) (bytes-target k);
-        counted = λ g k. rw (
-          sources ∙ ended-sources e k (bytes-source k) (bytes-target k),
-          targets ∙ ended-targets e k (bytes-source k) (bytes-target k),
-          total ∙ same-total k ∙ ended-edges e k (bytes-source k) (bytes-target k),
-        );
+        counted =
+            λ g k.
+            totals-same
+            (total ∙ same-total k ∙ ended-edges e k (bytes-source k) (bytes-target k))
+            (sources ∙ ended-sources e k (bytes-source k) (bytes-target k))
+            (targets ∙ ended-targets e k (bytes-source k) (bytes-target k));
         sources = written (c .order) (atLeast w′ at (c .x)) s first;
         targets = written (c .order) (atLeast w′ (at + c .order) (c .y)) t second;
         kept = e .kept;

@@ -1,15 +1,15 @@
 -- What is read off a peel that has run to its end: two groups, and how many they are.
 use Prim.Native.Nat.{ℕ, _+_}
-use mathlib.Core.List.{List, [], _∷_, _++_}
+use mathlib.Core.List.{List}
 use mathlib.Core.Path.{_≡_}
 use lib.Dec.{leb}
-use lib.ListN.{getD, drop}
+use lib.ListN.{getD}
 use Rattle.graph.specs.Range.{sum, if}
 use Rattle.graph.specs.Graph.{Graph, Group}
 use Rattle.graph.specs.Core.{Core}
 use Rattle.network.specs.declared.Totals.{Totals}
 use Rattle.network.specs.File.{groupOf}
-use Rattle.network.specs.Tables.{bytesOf}
+use Rattle.network.specs.Tables.{GroupIn}
 use Rattle.network.specs.Counts.{totals}
 use Rattle.peeling.specs.declared.Scope.{Scope}
 use Rattle.peeling.specs.Peeling.{Tabled, Kept}
@@ -22,18 +22,10 @@ atLeast w i k u = leb k (getD w (i + u) 0)
 abbrev pub weightOf : List ℕ → ℕ → ℕ → ℕ → ℕ
 weightOf w i k = sum (λ u. if (atLeast w i k u) (getD w (i + u) 0))
 
--- a group stands in the first n bytes, and the later ones are as they were
-abbrev pub Written : ℕ → List ℕ → List ℕ → Type 0
-Written n s s′ = s′ ≡ bytesOf n (groupOf s′) ++ drop n s
-
--- 01's numbers of the answer
-abbrev pub totalsNumbers : Totals → List ℕ
-totalsNumbers r = r .edges ∷ r .sources ∷ r .targets ∷ []
-
 -- the groups written are the core of every graph that the table holds, and the numbers returned are theirs
 pub record CoreIn (c : Scope) (w w′ s s′ t t′ : List ℕ) (r : Totals) : Type 0 where
   pub core : (g : Graph) → Tabled g (c .order) (c .size) w → Core g (c .x) (c .y) (groupOf s′) (groupOf t′)
-  pub counted : (g : Graph) → Tabled g (c .order) (c .size) w → totalsNumbers r ≡ totals g (groupOf s′) (groupOf t′)
-  pub sources : Written (c .order) s s′
-  pub targets : Written (c .order) t t′
+  pub counted : (g : Graph) → Tabled g (c .order) (c .size) w → r ≡ totals g (groupOf s′) (groupOf t′)
+  pub sources : GroupIn (c .order) s s′
+  pub targets : GroupIn (c .order) t t′
   pub kept : Kept (c .order) (c .size) w w′

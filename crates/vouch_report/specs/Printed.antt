@@ -1,26 +1,19 @@
 -- 01, "The report program": what is printed for an input, whatever it is.
 use Prim.Native.Nat.{ℕ}
 use mathlib.Core.Bool.{cond}
-use mathlib.Core.List.{List, [], _∷_}
+use mathlib.Core.List.{List}
 use mathlib.Core.Logic.{_≢_}
 use mathlib.Core.Path.{_≡_}
 use lib.Dec.{eqb}
+use Rattle.graph.specs.Graph.{card, edges}
 use Rattle.graph.specs.Core.{EqualLevel, Finding}
 use Rattle.network.specs.declared.Refusal.{Refusal}
 use Rattle.network.specs.File.{graphOf, groupOf, none, plain, fileRefusal}
 use Rattle.network.specs.Refusals.{orElse}
-use Rattle.network.specs.Counts.{totals}
 use Rattle.finding.specs.declared.Ring.{Ring}
-use Rattle.finding.specs.declared.FindingAnswer.{FindingAnswer}
-use Rattle.finding.specs.declared.FindingAnswer.the-variants.{Found, Refused}
 use Rattle.report.specs.declared.Numbers.{Numbers}
 use Rattle.report.specs.Text.{refusalText, reportText}
 use Rattle.report.specs.Put.{Begins}
-
--- the refusal of a refused finding
-abbrev pub refusalOf : FindingAnswer → Refusal
-refusalOf (Found r) = none
-refusalOf (Refused q) = q
 
 -- the numbers of a report are those of the finding
 abbrev pub numbersOf : Ring → Numbers
@@ -45,7 +38,7 @@ pub record Reports (f text : List ℕ) : Type 0 where
   pub t : List ℕ
   pub finding : Finding (graphOf f) (numbers .x) (numbers .y) (groupOf s) (groupOf t)
   pub equal : EqualLevel (graphOf f) (numbers .equal)
-  pub counted : numbers .edges ∷ numbers .sources ∷ numbers .targets ∷ [] ≡ totals (graphOf f) (groupOf s) (groupOf t)
+  pub counted : (numbers .edges ≡ edges (graphOf f) (groupOf s) (groupOf t)) × (numbers .sources ≡ card (graphOf f) (groupOf s)) × (numbers .targets ≡ card (graphOf f) (groupOf t))
   pub same : text ≡ reportText numbers s t (graphOf f .order)
 
 -- the line of the refusal, or the report

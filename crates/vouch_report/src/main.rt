@@ -1,6 +1,5 @@
 // vouch-report: reads a network file from standard input and prints its finding, or why it is refused.
 use cogsplice::FindingAnswer;
-use cogsplice::Refusal;
 use cogsplice::Ring;
 use libc::STDIN_FILENO;
 use libc::STDOUT_FILENO;
@@ -10,17 +9,7 @@ ghost use Prim.Native.Nat.{_≤_};
 ghost use mathlib.Core.Path.{_≡_};
 ghost use lib.ListN.{length};
 ghost use Rattle.report.specs.Text.{longestReport};
-ghost use Rattle.vouch_report.specs.Printed.{refusalOf, numbersOf, Laid};
-
-// The refusal of a finding that is refused.
-fn refusal_of(answer: FindingAnswer) -> Refusal
-    ensures { λ r. ⌜ r ≡ refusalOf answer ⌝ }
-{
-    match answer {
-        FindingAnswer::Refused(refusal) => refusal,
-        FindingAnswer::Found(_) => Refusal { number: 0, link: 0 },
-    }
-}
+ghost use Rattle.vouch_report.specs.Printed.{numbersOf, Laid};
 
 fn numbers_of(ring: Ring) -> Numbers
     ensures { λ r. ⌜ r ≡ numbersOf ring ⌝ }
@@ -44,10 +33,16 @@ fn lay(file: &[u8], out: &mut [u8]) -> usize
     let mut s = [0u8; 2048];
     let mut t = [0u8; 2048];
     let answer = cogsplice::finding(file, &mut s, &mut t, &mut work);
-    let FindingAnswer::Found(ring) = answer else {
-        return report::put_refusal(refusal_of(answer), out);
-    };
-    report::put_report(numbers_of(ring), &s, &t, u16_at(file, 5), out)
+    match answer {
+        FindingAnswer::Refused(refusal) => report::put_refusal(refusal, out),
+        FindingAnswer::Found(ring) => report::put_report(
+            numbers_of(ring),
+            &s,
+            &t,
+            u16_at(file, 5),
+            out,
+        ),
+    }
 }
 
 fn main() {

@@ -1,6 +1,6 @@
 -- `count` refuses by the file, then a short table, then a byte that is neither 0 nor 1; else it counts.
 use Prim.Native.Nat.{_≤_}
-use mathlib.Core.Path.{_≡_, sym, ap, _∙_}
+use mathlib.Core.Path.{_≡_, refl, sym, ap, _∙_}
 use native.Mathlib.Omega.{arith}
 use borrow.Author.Tests.{not-true, not-false}
 use lib.ListN.{length}
@@ -8,9 +8,11 @@ use Rattle.graph.specs.Range.{sum, if}
 use Rattle.network.specs.File.{graphOf, groupOf, none, fileRefusal}
 use Rattle.network.specs.Refusals.{isGroup}
 use Rattle.network.specs.Sides.{Sound}
+use Rattle.network.specs.Calls as call
 use Rattle.network.proofs.Accepted.{accepted}
 use Rattle.network.proofs.Headers.{accepted-sound, found-none}
-use Rattle.network.proofs.Counted.{count-file, count-short, count-short-other, count-byte, count-byte-other, count-none, count-refused, count-accepted}
+use Rattle.network.proofs.Answers.{call-refused}
+use Rattle.network.proofs.Counted.{count-file, count-short, count-short-other, count-byte, count-byte-other, count-none}
 use borrow.Author.Needs.{needs}
 use Rattle.calls.proofs.counts.count.Statement.{statement}
 use Rattle.calls.proofs.counts.count.Tie as tie
@@ -29,7 +31,7 @@ returns : tie.Need-returns
 returns c =
     let a = c .before .before .before .before .before .before .args in
     let e = c .before .before .file-refusal .ensures in
-    count-refused (e ∙ count-file (a .file .now) (a .s .now) (a .t .now) (λ z. c .if1 .taken (ap (λ r. r .number) e ∙ z))) (c .if1 .taken)
+    call-refused (e ∙ count-file (a .file .now) (a .s .now) (a .t .now) (λ z. c .if1 .taken (ap (λ r. r .number) e ∙ z))) (c .if1 .taken)
 
 -- the function's entry
 abbrev start : tie.Else1 → tie.Start
@@ -49,12 +51,12 @@ u16-at-requires c κs = omega (arith, sound c .exact)
 returns-2 : tie.Need-returns-2
 returns-2 c =
     let b = c .before .before in
-    count-refused (count-short _ _ (start b .args .t .now) (gives-none b) (omega (arith, c .before .u16-at .ensures, c .if2 .taken))) (omega arith)
+    call-refused (count-short _ _ (start b .args .t .now) (gives-none b) (omega (arith, c .before .u16-at .ensures, c .if2 .taken))) (omega arith)
 
 returns-3 : tie.Need-returns-3
 returns-3 c =
     let b = c .before .before .before in
-    count-refused (count-short-other _ (start b .args .s .now) _ (gives-none b) (omega (arith, c .before .before .u16-at .ensures, c .if3 .taken))) (omega arith)
+    call-refused (count-short-other _ (start b .args .s .now) _ (gives-none b) (omega (arith, c .before .before .u16-at .ensures, c .if3 .taken))) (omega arith)
 
 -- the first group is long enough
 long : (c : tie.Else2) → graphOf (start (c .before .before) .args .file .now) .order ≤ length (start (c .before .before) .args .s .now)
@@ -71,7 +73,7 @@ returns-4 : tie.Need-returns-4
 returns-4 c =
     let d = c .before .before in
     let b = d .before .before .before in
-    count-refused (count-byte _ _ _ (gives-none b) (long (d .before)) (long-other d)
+    call-refused (count-byte _ _ _ (gives-none b) (long (d .before)) (long-other d)
     (ap (λ n. isGroup n (start b .args .s .now)) (sym (d .before .before .u16-at .ensures .0)) ∙ sym (c .before .is-group .ensures) ∙ not-true _ (c .if4 .taken))) (omega arith)
 
 is-group-requires-2 : tie.Need-is-group-requires-2
@@ -81,7 +83,7 @@ returns-5 : tie.Need-returns-5
 returns-5 c =
     let d = c .before .before .before .before in
     let b = d .before .before .before in
-    count-refused (count-byte-other _ (start b .args .s .now) _ (gives-none b) (long (d .before)) (long-other d)
+    call-refused (count-byte-other _ (start b .args .s .now) _ (gives-none b) (long (d .before)) (long-other d)
     (ap (λ n. isGroup n (start b .args .t .now)) (sym (d .before .before .u16-at .ensures .0)) ∙ sym (c .before .is-group2 .ensures) ∙ not-true _ (c .if5 .taken))) (omega arith)
 
 edges-between-requires : tie.Need-edges-between-requires
@@ -101,13 +103,16 @@ returns-6 c =
     let d = f .before .before .before .before in
     let b = d .before .before .before in
     let n = d .before .before .u16-at .ensures .0 in
-    count-accepted _
+    call.accepted _
     (count-none _ _ _ (gives-none b) (long (d .before)) (long-other d)
     (ap (λ n. isGroup n (start b .args .s .now)) (sym n) ∙ sym (f .before .before .before .is-group .ensures) ∙ not-false _ (f .before .before .if4 .left))
     (ap (λ n. isGroup n (start b .args .t .now)) (sym n) ∙ sym (f .before .is-group2 .ensures) ∙ not-false _ (f .if5 .left)))
-    (c .before .before .edges-between .ensures)
-    (c .before .size-of .ensures ∙ ap (sum (λ u. if (groupOf (start b .args .s .now) u) 1)) n)
-    (c .size-of2 .ensures ∙ ap (sum (λ u. if (groupOf (start b .args .t .now) u) 1)) n)
+    refl
+    (rw (
+      c .before .before .edges-between .ensures,
+      c .before .size-of .ensures ∙ ap (sum (λ u. if (groupOf (start b .args .s .now) u) 1)) n,
+      c .size-of2 .ensures ∙ ap (sum (λ u. if (groupOf (start b .args .t .now) u) 1)) n,
+    ))
 
 pub count-spec : {M : Type 1} → statement M
 count-spec =

@@ -1,16 +1,18 @@
 -- `write` refuses by the file, then by a short output; else it stores the file where its edges ascend, and where not the file in the order that
 -- the check left.
 use Prim.Native.Nat.{ℕ, _<_, _≤_}
-use mathlib.Core.Path.{_≡_, sym, ap, _∙_}
+use mathlib.Core.Path.{_≡_, refl, sym, ap, _∙_}
 use native.Mathlib.Omega.{arith}
 use lib.ListN.{length, getD}
 use lib.Seq.{sets}
 use Rattle.network.specs.File.{graphOf, none, fileRefusal}
 use Rattle.network.specs.Refusals.{fileLength}
 use Rattle.network.specs.Sides.{Sound}
+use Rattle.network.specs.Calls as call
 use Rattle.network.proofs.Accepted.{Accepted, accepted}
 use Rattle.network.proofs.Headers.{accepted-sound, found-none}
-use Rattle.network.proofs.Writer.{write-file, write-short, write-none, write-refused, write-accepted}
+use Rattle.network.proofs.Answers.{call-refused}
+use Rattle.network.proofs.Writer.{write-file, write-short, write-none, write-stored}
 use Rattle.calls.proofs.Itself.{written-itself}
 use borrow.Author.Needs.{needs}
 use Rattle.calls.proofs.writes.write.Statement.{statement}
@@ -32,7 +34,7 @@ returns : tie.Need-returns
 returns c =
     let a = c .before .before .before .before .before .before .before .before .args in
     let e = c .before .before .before .before .file-state .ensures .0 in
-    write-refused (e ∙ write-file (a .file .now) (length (a .out .now)) (λ z. c .if1 .taken (ap (λ r. r .number) e ∙ z))) (c .if1 .taken)
+    call-refused (e ∙ write-file (a .file .now) (length (a .out .now)) (λ z. c .if1 .taken (ap (λ r. r .number) e ∙ z))) (c .if1 .taken)
 
 -- the function's entry
 abbrev start : tie.Else1 → tie.Start
@@ -62,7 +64,7 @@ add-if2 c = search needs
 returns-2 : tie.Need-returns-2
 returns-2 c =
     let b = c .before .before in
-    write-refused (write-short (start b .args .file .now) _ (gives-none b) (omega (arith, c .before .u16-at .ensures, c .if2 .taken))) (omega arith)
+    call-refused (write-short (start b .args .file .now) _ (gives-none b) (omega (arith, c .before .u16-at .ensures, c .if2 .taken))) (omega arith)
 
 -- the output is long enough
 long : (c : tie.Else2) → fileLength (graphOf (start (c .before .before) .args .file .now)) ≤ length (start (c .before .before) .args .out .now)
@@ -84,8 +86,8 @@ returns-3 c =
     let d = t .before in
     let b = d .before .before in
     let itself = written-itself (start b .args .file .now) (bytes b) (accept b) (b .before .before .before .before .file-state .ensures .1 .0 (t .if3 .taken)) in
-    write-accepted (write-none (start b .args .file .now) _ (gives-none b) (long d)) (d .before .u16-at .ensures .0) (long d)
-    (c .before .before .copy .ensures ∙ ap (sets (start b .args .out .now) 0) (sym itself))
+    let stored = c .before .before .copy .ensures ∙ ap (sets (start b .args .out .now) 0) (sym itself) in
+    call.accepted _ (write-none (start b .args .file .now) _ (gives-none b) (long d)) refl (d .before .u16-at .ensures .0, write-stored (start b .args .file .now) _ (long d) stored)
 
 slice-aggregate-put-file : tie.Need-slice-aggregate-put-file
 slice-aggregate-put-file c = search needs
@@ -105,7 +107,8 @@ returns-4 : tie.Need-returns-4
 returns-4 c =
     let d = c .before .before .before .before .before .before in
     let b = d .before .before in
-    write-accepted (write-none (start b .args .file .now) _ (gives-none b) (long d)) (d .before .u16-at .ensures .0) (long d) (c .before .before .put-file .ensures)
+    let f = start b .args .file .now in
+    call.accepted _ (write-none f _ (gives-none b) (long d)) refl (d .before .u16-at .ensures .0, write-stored f _ (long d) (c .before .before .put-file .ensures))
 
 pub write-spec : {M : Type 1} → statement M
 write-spec =

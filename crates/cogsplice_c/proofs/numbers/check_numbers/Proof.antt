@@ -1,6 +1,6 @@
 -- `check_numbers` is the definition, case by case.
 use mathlib.Core.Path.{sym, ap}
-use Rattle.network.specs.Checks.{checkNumbers}
+use Rattle.cogsplice_c.specs.Told.{checkNumbers}
 use borrow.Author.Needs.{needs}
 use Rattle.cogsplice_c.proofs.numbers.check_numbers.Statement.{statement}
 use Rattle.cogsplice_c.proofs.numbers.check_numbers.Tie as tie

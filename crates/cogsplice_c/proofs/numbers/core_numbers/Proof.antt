@@ -1,6 +1,6 @@
 -- `core_numbers` is the definition, case by case.
 use mathlib.Core.Path.{sym, ap, _∙_}
-use Rattle.cores.specs.Calls.{coreNumbers}
+use Rattle.cogsplice_c.specs.Told.{coreNumbers}
 use borrow.Author.Needs.{needs}
 use Rattle.cogsplice_c.proofs.numbers.core_numbers.Statement.{statement}
 use Rattle.cogsplice_c.proofs.numbers.core_numbers.Tie as tie

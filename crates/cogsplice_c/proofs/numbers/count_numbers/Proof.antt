@@ -1,6 +1,6 @@
 -- `count_numbers` is the definition, case by case.
 use mathlib.Core.Path.{sym, ap, _∙_}
-use Rattle.network.specs.Counts.{countNumbers}
+use Rattle.cogsplice_c.specs.Told.{countNumbers}
 use borrow.Author.Needs.{needs}
 use Rattle.cogsplice_c.proofs.numbers.count_numbers.Statement.{statement}
 use Rattle.cogsplice_c.proofs.numbers.count_numbers.Tie as tie

@@ -1,6 +1,6 @@
 -- `finding_numbers` is the definition, case by case.
 use mathlib.Core.Path.{sym, ap}
-use Rattle.finding.specs.Findings.{findingNumbers}
+use Rattle.cogsplice_c.specs.Told.{findingNumbers}
 use borrow.Author.Needs.{needs}
 use Rattle.cogsplice_c.proofs.numbers.finding_numbers.Statement.{statement}
 use Rattle.cogsplice_c.proofs.numbers.finding_numbers.Tie as tie

@@ -1,6 +1,6 @@
 -- `index_numbers` is the definition, case by case.
 use mathlib.Core.Path.{sym, ap}
-use Rattle.adjacency.specs.Indexes.{indexNumbers}
+use Rattle.cogsplice_c.specs.Told.{indexNumbers}
 use borrow.Author.Needs.{needs}
 use Rattle.cogsplice_c.proofs.numbers.index_numbers.Statement.{statement}
 use Rattle.cogsplice_c.proofs.numbers.index_numbers.Tie as tie

@@ -1,6 +1,6 @@
 -- `level_numbers` is the definition, case by case.
 use mathlib.Core.Path.{sym, ap}
-use Rattle.cores.specs.Calls.{levelNumbers}
+use Rattle.cogsplice_c.specs.Told.{levelNumbers}
 use borrow.Author.Needs.{needs}
 use Rattle.cogsplice_c.proofs.numbers.level_numbers.Statement.{statement}
 use Rattle.cogsplice_c.proofs.numbers.level_numbers.Tie as tie

@@ -1,6 +1,6 @@
 -- `write_numbers` is the definition, case by case.
 use mathlib.Core.Path.{sym, ap}
-use Rattle.network.specs.Writes.{writeNumbers}
+use Rattle.cogsplice_c.specs.Told.{writeNumbers}
 use borrow.Author.Needs.{needs}
 use Rattle.cogsplice_c.proofs.numbers.write_numbers.Statement.{statement}
 use Rattle.cogsplice_c.proofs.numbers.write_numbers.Tie as tie

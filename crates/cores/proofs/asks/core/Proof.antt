@@ -1,12 +1,14 @@
 -- `core` refuses, or lays the places of the file's network into the work table and writes the groups that the peel leaves.
-use mathlib.Core.Path.{_≡_, sym, ap, _∙_}
+use mathlib.Core.Path.{_≡_, refl, sym, ap, _∙_}
 use native.Mathlib.Omega.{arith}
 use lib.ListN.{length}
 use Rattle.network.specs.File.{graphOf, none}
 use Rattle.network.specs.Refusals.{coreRefusal}
+use Rattle.network.specs.Calls as call
 use Rattle.network.proofs.Accepted.{core-proper}
+use Rattle.network.proofs.Answers.{call-refused}
 use Rattle.peeling.specs.Peeling.{Tabled}
-use Rattle.cores.proofs.CoreCalls.{CoreReady, core-ready, core-refused, core-done, file-tabled, tabled-rows, file-small, work-kept}
+use Rattle.cores.proofs.CoreCalls.{CoreReady, core-ready, core-done, file-tabled, tabled-rows, file-small, work-kept}
 use borrow.Author.Needs.{needs}
 use Rattle.cores.proofs.asks.core.Statement.{statement}
 use Rattle.cores.proofs.asks.core.Tie as tie
@@ -25,7 +27,7 @@ core-refusal-requires : tie.Need-core-refusal-requires
 core-refusal-requires c κs = search needs
 
 returns : tie.Need-returns
-returns c = core-refused (c .before .before .before .core-refusal .ensures .0) (c .if1 .taken)
+returns c = call-refused (c .before .before .before .core-refusal .ensures .0) (c .if1 .taken)
 
 -- the function's entry
 abbrev start : tie.Else1 → tie.Start
@@ -87,8 +89,8 @@ returns-2 c =
     let b = d .before .before .before .before .before in
     let e = b .before .before .before .before .before .before .before in
     let p = b .before .before .before .before .index-places .ensures in
-    core-done (gives-none e) (tabled b) (sym (d .before .before .before .before .wide16 .ensures .0)) (sym (d .before .before .before .wide162 .ensures .0)) (work-kept (start e .args .file .now) (start e .args .work .now) (b .before .before .before .before .index-places .last .1 .1 .0) (c .before .before .before .before .before .before .core-in .last .0) (b .before .u16-at .ensures .0) (b .u16-at2 .ensures .0) (p .1 .0) (p .1 .1) (c .before .before .before .before .before .before .core-in .ensures .kept))
-    (c .before .before .before .before .before .before .core-in .ensures)
+    call.accepted _ (gives-none e) refl (core-done (tabled b) (sym (d .before .before .before .before .wide16 .ensures .0)) (sym (d .before .before .before .wide162 .ensures .0)) (work-kept (start e .args .file .now) (start e .args .work .now) (b .before .before .before .before .index-places .last .1 .1 .0) (c .before .before .before .before .before .before .core-in .last .0) (b .before .u16-at .ensures .0) (b .u16-at2 .ensures .0) (p .1 .0) (p .1 .1) (c .before .before .before .before .before .before .core-in .ensures .kept))
+    (c .before .before .before .before .before .before .core-in .ensures))
 
 pub core-spec : {M : Type 1} → statement M
 core-spec =

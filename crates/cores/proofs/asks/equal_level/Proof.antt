@@ -1,10 +1,12 @@
 -- `equal_level` refuses, or answers the level of a climb of both needs.
-use mathlib.Core.Path.{_≡_, sym, ap, _∙_}
+use mathlib.Core.Path.{_≡_, refl, sym, ap, _∙_}
 use native.Mathlib.Omega.{arith}
 use lib.ListN.{length}
 use Rattle.network.specs.File.{none}
 use Rattle.network.specs.Refusals.{equalLevelRefusal}
-use Rattle.cores.proofs.CoreCalls.{equal-proper, equal-ready, level-refused, level-done}
+use Rattle.network.specs.Calls as call
+use Rattle.network.proofs.Answers.{call-refused}
+use Rattle.cores.proofs.CoreCalls.{equal-proper, equal-ready}
 use borrow.Author.Needs.{needs}
 use Rattle.cores.proofs.asks.equal_level.Statement.{statement}
 use Rattle.cores.proofs.asks.equal_level.Tie as tie
@@ -20,7 +22,7 @@ equal-refusal-requires : tie.Need-equal-refusal-requires
 equal-refusal-requires c κs = search needs
 
 returns : tie.Need-returns
-returns c = level-refused (c .before .before .before .equal-refusal .ensures .0) (c .if1 .taken)
+returns c = call-refused (c .before .before .before .equal-refusal .ensures .0) (c .if1 .taken)
 
 -- the function's entry
 abbrev start : tie.Else1 → tie.Start
@@ -44,7 +46,7 @@ same-length : tie.Need-same-length
 same-length c = search needs
 
 returns-2 : tie.Need-returns-2
-returns-2 c = level-done (gives-none (c .before .before .before .before .before)) (c .before .before .level-of .ensures)
+returns-2 c = call.accepted _ (gives-none (c .before .before .before .before .before)) refl (c .before .before .level-of .ensures)
 
 pub equal-level-spec : {M : Type 1} → statement M
 equal-level-spec =

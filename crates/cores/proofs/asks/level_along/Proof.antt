@@ -1,10 +1,12 @@
 -- `level_along` refuses as the equal level does, then 0, or answers the level of a climb of one need.
-use mathlib.Core.Path.{_≡_, sym, ap, _∙_}
+use mathlib.Core.Path.{_≡_, refl, sym, ap, _∙_}
 use native.Mathlib.Omega.{arith}
 use lib.ListN.{length}
 use Rattle.network.specs.File.{none}
 use Rattle.network.specs.Refusals.{equalLevelRefusal}
-use Rattle.cores.proofs.CoreCalls.{equal-proper, equal-ready, level-equal, level-zero, level-none, level-refused, level-done}
+use Rattle.network.specs.Calls as call
+use Rattle.network.proofs.Answers.{call-refused}
+use Rattle.cores.proofs.CoreCalls.{equal-proper, equal-ready, level-equal, level-zero, level-none}
 use borrow.Author.Needs.{needs}
 use Rattle.cores.proofs.asks.level_along.Statement.{statement}
 use Rattle.cores.proofs.asks.level_along.Tie as tie
@@ -24,7 +26,7 @@ returns : tie.Need-returns
 returns c =
     let a = c .before .before .before .before .before .before .before .args in
     let e = c .before .before .before .equal-refusal .ensures .0 in
-    level-refused (e ∙ level-equal (a .file .now) (length (a .work .now)) (a .fixed) (λ z. c .if1 .taken (ap (λ r. r .number) e ∙ z))) (c .if1 .taken)
+    call-refused (e ∙ level-equal (a .file .now) (length (a .work .now)) (a .fixed) (λ z. c .if1 .taken (ap (λ r. r .number) e ∙ z))) (c .if1 .taken)
 
 -- the function's entry
 abbrev start : tie.Else1 → tie.Start
@@ -35,7 +37,7 @@ gives-none : (c : tie.Else1) → equalLevelRefusal (start c .args .file .now) (l
 gives-none c = equal-proper _ _ .number-none (ap (λ r. r .number) (sym (c .before .before .before .equal-refusal .ensures .0)) ∙ c .if1 .left)
 
 returns-2 : tie.Need-returns-2
-returns-2 c = level-refused (level-zero _ _ _ (gives-none (c .before)) (c .if2 .taken)) (omega arith)
+returns-2 c = call-refused (level-zero _ _ _ (gives-none (c .before)) (c .if2 .taken)) (omega arith)
 
 slice-aggregate-level-of : tie.Need-slice-aggregate-level-of
 slice-aggregate-level-of c = search needs
@@ -54,7 +56,7 @@ same-length : tie.Need-same-length
 same-length c = search needs
 
 returns-3 : tie.Need-returns-3
-returns-3 c = level-done (level-none _ _ _ (gives-none (c .before .before .before .before .before .before .before)) (c .before .before .before .before .before .before .if2 .left)) (rw (c .before .before .before .before .wide16 .ensures .0) at (c .before .before .level-of .ensures))
+returns-3 c = call.accepted _ (level-none _ _ _ (gives-none (c .before .before .before .before .before .before .before)) (c .before .before .before .before .before .before .if2 .left)) refl (rw (c .before .before .before .before .wide16 .ensures .0) at (c .before .before .level-of .ensures))
 
 pub level-along-spec : {M : Type 1} → statement M
 level-along-spec =

@@ -2,7 +2,8 @@
 use native.Mathlib.Omega.{arith}
 use Rattle.network.specs.File.{graphOf}
 use Rattle.peeling.specs.Peeling.{Tabled}
-use Rattle.cores.proofs.CoreCalls.{file-tabled, tabled-rows, file-small, work-kept, climb-levelled}
+use Rattle.peeling.proofs.Levels.{climbed-level}
+use Rattle.cores.proofs.CoreCalls.{file-tabled, tabled-rows, file-small, work-kept}
 use borrow.Author.Needs.{needs}
 use Rattle.cores.proofs.asks.level_of.Statement.{statement}
 use Rattle.cores.proofs.asks.level_of.Tie as tie
@@ -40,8 +41,7 @@ returns : tie.Need-returns
 returns c =
     let b = c .before .before .before in
     let p = b .before .before .before .before .before .index-places .ensures in
-    climb-levelled (tabled b) (work-kept (start b .args .file .now) (start b .args .work .now) (b .before .before .before .before .before .index-places .last .1 .1 .0) (c .before .before .climb .last .0) (b .before .u16-at .ensures .0) (b .u16-at2 .ensures .0) (p .1 .0) (p .1 .1) (c .before .before .climb .ensures .kept))
-    (c .before .before .climb .ensures)
+    (climbed-level _ _ 1 (c .before .before .climb .ensures) (λ h. h) (tabled b), work-kept (start b .args .file .now) (start b .args .work .now) (b .before .before .before .before .before .index-places .last .1 .1 .0) (c .before .before .climb .last .0) (b .before .u16-at .ensures .0) (b .u16-at2 .ensures .0) (p .1 .0) (p .1 .1) (c .before .before .climb .ensures .kept))
 
 pub level-of-spec : {M : Type 1} → statement M
 level-of-spec =
