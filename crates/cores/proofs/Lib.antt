@@ -1,3 +1,3 @@
 pub mod PlacesIndexed
 pub mod PlacesFilled
-pub mod CoreCalls
+pub mod WayIn

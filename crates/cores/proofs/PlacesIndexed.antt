@@ -96,7 +96,7 @@ module _ {g : Graph} {w : List ℕ} (p : Places g w) where
       a l
 
 -- so the table holds the rows of the graph
-pub places-indexed : {g : Graph} → Closed g → ((e : ℕ) → e < g .size → g .weight e ≡ 1) → {w : List ℕ} → Places g w → Indexed g w
+pub places-indexed : {g : Graph} → Closed g → ((e : ℕ) → e < g .size → g .weight e ≡ 1) → {w : List ℕ} → Places g w → Indexed g (g .size) w
 places-indexed {g} k one {w} p = record { rows = rows; linked = places-linked p k one }
   where
     two : (n : ℕ) → 2 * n ≡ n + n

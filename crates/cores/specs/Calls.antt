@@ -15,18 +15,6 @@ use Rattle.cores.specs.declared.CoreAnswer.{CoreAnswer}
 use Rattle.cores.specs.declared.CoreAnswer.the-variants.{Done, Refused}
 use Rattle.cores.specs.declared.LevelAnswer as answer
 
--- the refusals, under names that no function hides
-abbrev pub coreRefusalOf : List ℕ → ℕ → ℕ → ℕ → Refusal
-coreRefusalOf = coreRefusal
-
--- of level and of level across
-abbrev pub levelRefusalOf : List ℕ → ℕ → ℕ → Refusal
-levelRefusalOf = levelRefusal
-
--- of the equal level
-abbrev pub equalRefusalOf : List ℕ → ℕ → Refusal
-equalRefusalOf = equalLevelRefusal
-
 -- what lies past the entries that a work table needs is unchanged
 abbrev pub WorkKept : List ℕ → List ℕ → List ℕ → Type 0
 WorkKept f w w′ = (length w′ ≡ length w) × (drop (workLength (graphOf f)) w′ ≡ drop (workLength (graphOf f)) w)

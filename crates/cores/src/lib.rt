@@ -1,5 +1,6 @@
-// Cores and levels: the calls core, level, level_across and equal_level.
+// Cores and levels: the calls core, level, level_across and equal_level, and the way into every call on cores.
 mod asks;
+mod entries;
 mod places;
 
 use network::Refusal;
@@ -17,9 +18,21 @@ pub enum LevelAnswer {
     Refused(Refusal),
 }
 
+// What is asked of a call beside the file and its tables: nothing, a number that is not 0, or a link.
+pub enum Ask {
+    Nothing,
+    NotZero(u16),
+    SomeLink,
+}
+
+// What the way in answers: n and m, or the refusal.
+pub enum Entry {
+    Ready { order: usize, size: usize },
+    Refused(Refusal),
+}
+
 pub use asks::core;
-pub use asks::core_refusal;
 pub use asks::equal_level;
 pub use asks::level;
 pub use asks::level_across;
-pub use places::index_places;
+pub use entries::enter;

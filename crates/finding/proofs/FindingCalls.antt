@@ -1,94 +1,92 @@
--- The finding call: its refusals under their conditions, and how its answers are told.
+-- The finding call: when it is refused though a core is not, and how its answers are told.
 use Prim.Native.Nat.{ℕ, zero, suc, _≤_}
-use mathlib.Core.List.{List}
+use mathlib.Core.Bool.{Bool, cond, _||_}
+use mathlib.Core.List.{List, [], _∷_}
 use mathlib.Core.Logic.{_≢_, _↔_}
-use mathlib.Core.Path.{_≡_, refl, sym, subst, _∙_}
+use mathlib.Core.Path.{_≡_, refl, sym, ap, _∙_}
 use native.Mathlib.Omega.{arith}
 use borrow.Author.Tests.{eq-eqb, ne-eqb}
+use lib.Dec.{eqb, ltb}
 use lib.ListN.{length}
 use Rattle.graph.proofs.Sums.{sum-ones}
 use Rattle.graph.proofs.Density.{finding-bounds}
 use Rattle.network.specs.declared.Refusal.{Refusal}
 use Rattle.network.specs.File.{graphOf, none, plain}
-use Rattle.network.specs.Refusals.{coreRefusal, findingRefusal}
-use Rattle.network.specs.Tables.{GroupIn}
+use Rattle.network.specs.Refusals.{workLength, coreRefusal, findingRefusal}
+use Rattle.network.specs.Sides.{Sound}
 use Rattle.network.specs.Calls.{IsRefused}
 use Rattle.network.specs.Calls as call
-use Rattle.network.proofs.Accepted.{Proper, core-proper, cond-proper, none-proper, orElse-proper, orElse-both}
-use Rattle.network.proofs.Answers.{refusal-some, call-refused, orElse-first, orElse-second}
-use Rattle.peeling.specs.Peeling.{Tabled}
-use Rattle.cores.specs.Calls.{WorkKept}
+use Rattle.network.proofs.Accepted.{cond-none, file-proper, orElse-both, accepted-orElse}
+use Rattle.network.proofs.Answers.{refusal-some, call-kept, orElse-second}
+use Rattle.network.proofs.Headers.{accepted-sound}
+use Rattle.cores.specs.Entries.{Entered}
+use Rattle.cores.proofs.WayIn.{entered-groups}
 use Rattle.finding.specs.declared.FindingAnswer.the-variants.{Found, Refused}
 use Rattle.finding.specs.declared.Ring.{Ring}
 use Rattle.finding.specs.Findings.{FindingCall}
 use Rattle.finding.specs.Searches as searches
 
+-- a table is too short
+abbrev short : List ℕ → ℕ → ℕ → ℕ → Bool
+short f s t w = ltb s (graphOf f .order) || ltb t (graphOf f .order) || ltb w (workLength (graphOf f))
+
 module _ (f : List ℕ) (s t w : ℕ) where
-  -- the core's refusal comes first
-  pub finding-core : coreRefusal f s t w .number ≢ 0 → coreRefusal f s t w ≡ findingRefusal f s t w
-  unfolding findingRefusal
-  finding-core n = sym (orElse-first _ n)
+  -- where the core is not refused, only 13 is left
+  finding-rest : coreRefusal f s t w ≡ none → findingRefusal f s t w ≡ cond (eqb (graphOf f .size) 0) (plain 13) none
+  unfolding coreRefusal findingRefusal
+  finding-rest e =
+      let (i, j) = orElse-both _ (file-proper f) .0 e in
+      let (b, k) = cond-none (short f s t w) (plain 9) none refl .0 j in
+      orElse-second _ i ∙ rw b
 
-  -- then 13 for a file with no link,
-  pub finding-linkless : coreRefusal f s t w ≡ none → graphOf f .size ≡ 0 → plain 13 ≡ findingRefusal f s t w
-  unfolding findingRefusal
-  finding-linkless e z = sym (orElse-second _ e ∙ rw (eq-eqb (graphOf f .size) 0 z))
+  -- and where the finding is not refused, no core is
+  finding-core : findingRefusal f s t w ≡ none → coreRefusal f s t w ≡ none
+  unfolding coreRefusal findingRefusal
+  finding-core e =
+      let (i, j) = orElse-both _ (file-proper f) .0 e in
+      let (b, k) = cond-none (short f s t w) (plain 9) _ refl .0 j in
+      orElse-second _ i ∙ rw b
 
-  -- else none
-  pub finding-none : coreRefusal f s t w ≡ none → graphOf f .size ≢ 0 → findingRefusal f s t w ≡ none
+  -- so every edge of its file can be read
+  pub finding-sound : findingRefusal f s t w ≡ none → Sound f
   unfolding findingRefusal
-  finding-none e z = orElse-second _ e ∙ rw (ne-eqb (graphOf f .size) 0 z)
+  finding-sound e = accepted-sound (accepted-orElse f _ .0 e .0)
 
-  -- a refusal of number 0 is none
-  pub finding-proper : Proper (findingRefusal f s t w)
-  unfolding findingRefusal
-  finding-proper = orElse-proper (core-proper f s t w) (search (cond-proper, none-proper))
-
-  -- where there is none, the core is not refused
-  pub finding-accepted : findingRefusal f s t w ≡ none → coreRefusal f s t w ≡ none
-  unfolding findingRefusal
-  finding-accepted e = orElse-both _ (core-proper f s t w) .0 e .0
-
-  -- so it is refused exactly where there is no link
-  pub refused-linkless : coreRefusal f s t w ≡ none → (findingRefusal f s t w ≢ none) ↔ (graphOf f .size ≡ 0)
-  refused-linkless e = (λ h. size (graphOf f .size) refl h, λ z h. refusal-some {r = plain 13} (omega arith) (finding-linkless e z ∙ h))
+  -- it is refused exactly where there is no link
+  refused-linkless : coreRefusal f s t w ≡ none → (findingRefusal f s t w ≢ none) ↔ (graphOf f .size ≡ 0)
+  refused-linkless e = (λ h. size (graphOf f .size) refl h, λ z h. refusal-some {r = plain 13} (omega arith) (sym (finding-rest e ∙ rw (eq-eqb (graphOf f .size) 0 z)) ∙ h))
     where
       size : (m : ℕ) → graphOf f .size ≡ m → findingRefusal f s t w ≢ none → graphOf f .size ≡ 0
       size zero i h = i
-      size (suc m) i h = absurd (h (finding-none e (λ z. omega (arith, i, z))))
+      size (suc m) i h = absurd (h (finding-rest e ∙ rw (ne-eqb (graphOf f .size) 0 (λ z. omega (arith, i, z)))))
 
   -- and a file that is accepted has a link
-  pub finding-links : findingRefusal f s t w ≡ none → 1 ≤ graphOf f .size
+  finding-links : findingRefusal f s t w ≡ none → 1 ≤ graphOf f .size
   finding-links e = size (graphOf f .size) refl
     where
       size : (m : ℕ) → graphOf f .size ≡ m → 1 ≤ graphOf f .size
-      size zero i = absurd (refused-linkless (finding-accepted e) .1 i e)
+      size zero i = absurd (refused-linkless (finding-core e) .1 i e)
       size (suc m) i = omega (arith, i)
 
--- a refused finding leaves the tables as they were
-pub finding-refused : {f s t w : List ℕ} {q : Refusal} → q ≡ findingRefusal f (length s) (length t) (length w) → q .number ≢ 0 → FindingCall f s s t t w w (Refused q)
-finding-refused {f} {s} {t} {w} {q} e n =
+-- a refused finding has left the tables as they were
+pub finding-refused : {f s t w w′ : List ℕ} {q : Refusal} → q ≡ findingRefusal f (length s) (length t) (length w) → q .number ≢ 0 → w′ ≡ w → FindingCall f s s t t w w′ (Refused q)
+finding-refused {f} {s} {t} {q = q} e n k =
     record {
-      call = call-refused e n;
+      call = call-kept e n (ap (λ w. s ∷ t ∷ w ∷ []) k);
       linkless = λ h. (λ i. refused-linkless f _ _ _ h .0 (λ z. refusal-some n (e ∙ z)), λ i. record { refusal = q; told = refl });
     }
 
 -- an accepted one writes the finding of the file's network
-pub finding-done : {f s s′ t t′ w w₁ w₂ : List ℕ} {n m : ℕ} {r : Ring} → findingRefusal f (length s) (length t) (length w) ≡ none → Tabled (graphOf f) n m w₁
-    → WorkKept f w w₂ → searches.Found n m w₁ w₂ s s′ t t′ r → FindingCall f s s′ t t′ w w₂ (Found r)
-finding-done {f} {s} {s′} {t} {t′} {w} {r = r} e b k i =
-    let found = i .finding (graphOf f) b (omega (arith, sum-ones (graphOf f .size), finding-links f (length s) (length t) (length w) e)) in
+pub finding-done : {f s s′ t t′ w w₁ w₂ : List ℕ} {n m : ℕ} {r : Ring} → findingRefusal f (length s) (length t) (length w) ≡ none → Entered f (length s) (length t) w w₁ n m
+    → searches.Found n m w₁ w₂ s s′ t t′ r → FindingCall f s s′ t t′ w w₂ (Found r)
+finding-done {f} {s} {t = t} {w = w} {r = r} e b i =
+    let found = i .finding (graphOf f) (b .tabled) (omega (arith, sum-ones (graphOf f .size), finding-links f (length s) (length t) (length w) e)) in
     record {
       call = call.accepted r e refl (record {
         finding = found;
-        equal = i .equal (graphOf f) b;
-        bounds = finding-bounds (b .closed) found;
-        groups = record {
-          counted = i .counted (graphOf f) b;
-          sources = subst (λ n. GroupIn n s s′) (sym (b .order)) (i .sources);
-          targets = subst (λ n. GroupIn n t t′) (sym (b .order)) (i .targets);
-          work = k;
-        };
+        equal = i .equal (graphOf f) (b .tabled);
+        bounds = finding-bounds (b .tabled .closed) found;
+        groups = entered-groups b (i .kept) (i .sources) (i .targets) (i .counted (graphOf f) (b .tabled));
       });
       linkless = λ h. (λ u. absurd (never u), λ z. absurd (refused-linkless f _ _ _ h .1 z e));
     }

@@ -15,7 +15,7 @@ use Rattle.graph.specs.Graph.{Graph, Closed, Simple}
 use Rattle.graph.proofs.Ranges.{first-le, first-passes, first-before, first-least, first-none}
 use Rattle.network.specs.declared.Refusal.{Refusal}
 use Rattle.network.specs.File.{u16At, graphOf, marked, outside, same, repeat, none, fileRefusal}
-use Rattle.network.specs.Refusals.{orElse, isGroup, coreRefusal}
+use Rattle.network.specs.Refusals.{orElse, isGroup}
 
 -- a test for less fails exactly when the other is no greater
 pub ltb-fails : (a b : ℕ) → (ltb a b ≡ false) ↔ (b ≤ a)
@@ -76,23 +76,10 @@ orElse-both {r} s p = (go (eqb (r .number) 0) refl, λ (h, i). rw h i)
     go true e h = (p .number-none (eqb-true _ 0 e), h)
     go false e h = absurd (eqb-false _ 0 e (ap (λ t. t .number) h))
 
--- and of number 0 only then
-pub orElse-proper : {r s : Refusal} → Proper r → Proper s → Proper (orElse r s)
-orElse-proper {r} {s} p q = go (eqb (r .number) 0)
-  where
-    go : (b : Bool) → Proper (cond b s r)
-    go true = q
-    go false = p
-
 -- the refusal of a file has number 0 only where it is none
 pub file-proper : (f : List ℕ) → Proper (fileRefusal f)
 unfolding fileRefusal
 file-proper f = search (cond-proper, none-proper) depth 10
-
--- the refusal of the core call has number 0 only where it is none
-pub core-proper : (f : List ℕ) (s t w : ℕ) → Proper (coreRefusal f s t w)
-unfolding coreRefusal
-core-proper f s t w = orElse-proper (file-proper f) (search (cond-proper, none-proper))
 
 -- each of the numbers 1 to 8 is not given for the file
 pub record Accepted (f : List ℕ) : Type 0 where

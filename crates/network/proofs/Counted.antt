@@ -6,15 +6,16 @@ use mathlib.Core.Logic.{_≢_}
 use mathlib.Core.Path.{_≡_, sym, _∙_}
 use borrow.Author.Tests.{lt-ltb, le-ltb}
 use lib.ListN.{length}
+use Rattle.network.specs.declared.Refusal.{Refusal}
 use Rattle.network.specs.declared.Totals.{Totals}
 use Rattle.network.specs.File.{graphOf, none, plain, fileRefusal}
 use Rattle.network.specs.Refusals.{isGroup, countRefusal}
-use Rattle.network.proofs.Answers.{orElse-first, orElse-second}
+use Rattle.network.proofs.Answers.{orElse-found, orElse-second}
 
 -- the file's own refusal comes first
-pub count-file : (f s t : List ℕ) → fileRefusal f .number ≢ 0 → fileRefusal f ≡ countRefusal f s t
+pub count-file : (f s t : List ℕ) {q : Refusal} → q ≡ fileRefusal f → q .number ≢ 0 → q ≡ countRefusal f s t
 unfolding countRefusal
-count-file f s t n = sym (orElse-first _ n)
+count-file f s t = orElse-found _
 
 module _ (f s t : List ℕ) (e : fileRefusal f ≡ none) where
   -- 9 for a short first group,

@@ -7,6 +7,7 @@ use native.Mathlib.Omega.{arith}
 use borrow.Author.Tests.{lt-ltb, le-ltb}
 use lib.ListN.{length, take, drop}
 use lib.Seq.{sets, take-at}
+use Rattle.network.specs.declared.Refusal.{Refusal}
 use Rattle.network.specs.declared.WriteAnswer.the-variants.{Written}
 use Rattle.network.specs.File.{graphOf, none, plain, fileRefusal}
 use Rattle.network.specs.Refusals.{fileLength, writeRefusal}
@@ -14,14 +15,14 @@ use Rattle.network.specs.Tables.{written}
 use Rattle.network.specs.Calls.{refused, accepted}
 use Rattle.network.specs.Writes.{WriteCall}
 use Rattle.network.proofs.Accepted.{accepted-orElse}
-use Rattle.network.proofs.Answers.{orElse-first, orElse-second}
+use Rattle.network.proofs.Answers.{orElse-found, orElse-second}
 use Rattle.network.proofs.Puts.{sets-front}
 use Rattle.network.proofs.Written.{length-written, WrittenSame, written-same}
 
 -- the file's own refusal comes first
-pub write-file : (f : List ℕ) (o : ℕ) → fileRefusal f .number ≢ 0 → fileRefusal f ≡ writeRefusal f o
+pub write-file : (f : List ℕ) (o : ℕ) {q : Refusal} → q ≡ fileRefusal f → q .number ≢ 0 → q ≡ writeRefusal f o
 unfolding writeRefusal
-write-file f o n = sym (orElse-first _ n)
+write-file f o = orElse-found _
 
 -- then 9 for a short output
 pub write-short : (f : List ℕ) (o : ℕ) → fileRefusal f ≡ none → o < fileLength (graphOf f) → plain 9 ≡ writeRefusal f o

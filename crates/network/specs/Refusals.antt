@@ -13,6 +13,10 @@ use Rattle.network.specs.File.{graphOf, none, plain, fileRefusal}
 abbrev pub orElse : Refusal → Refusal → Refusal
 orElse r s = cond (eqb (r .number) 0) s r
 
+-- 01's order: the number of the file's own bytes, 9 where a table is short, and what comes after
+abbrev pub inOrder : List ℕ → Bool → Refusal → Refusal
+inOrder f short later = orElse (fileRefusal f) (cond short (plain 9) later)
+
 -- 01: every byte among the first n of a group is 0 or 1
 abbrev pub isGroup : ℕ → List ℕ → Bool
 isGroup n s = eqb (first (λ u. ltb 1 (getD s u 0)) n) n
@@ -29,9 +33,7 @@ fileLength g = 9 + 4 * g .size
 unfoldable pub indexRefusal : List ℕ → ℕ → ℕ → ℕ → ℕ → Refusal
 indexRefusal f os or is ir =
     let g = graphOf f in
-    orElse (fileRefusal f)
-    (cond (ltb os (suc (g .order)) || ltb or (g .size) || ltb is (suc (g .order)) || ltb ir (g .size)) (plain 9)
-    none)
+    inOrder f (ltb os (suc (g .order)) || ltb or (g .size) || ltb is (suc (g .order)) || ltb ir (g .size)) none
 
 -- one side's starts and rows, and the member
 unfoldable pub rowRefusal : List ℕ → List ℕ → ℕ → Refusal
@@ -45,44 +47,29 @@ rowRefusal starts rows u =
 unfoldable pub countRefusal : List ℕ → List ℕ → List ℕ → Refusal
 countRefusal f s t =
     let g = graphOf f in
-    orElse (fileRefusal f)
-    (cond (ltb (length s) (g .order) || ltb (length t) (g .order)) (plain 9)
-    (cond (not (isGroup (g .order) s && isGroup (g .order) t)) (plain 11)
-    none))
+    inOrder f (ltb (length s) (g .order) || ltb (length t) (g .order))
+    (cond (not (isGroup (g .order) s && isGroup (g .order) t)) (plain 11) none)
 
 -- the file, and the lengths of the two groups and of the work table
 unfoldable pub coreRefusal : List ℕ → ℕ → ℕ → ℕ → Refusal
 coreRefusal f s t w =
     let g = graphOf f in
-    orElse (fileRefusal f)
-    (cond (ltb s (g .order) || ltb t (g .order) || ltb w (workLength g)) (plain 9)
-    none)
+    inOrder f (ltb s (g .order) || ltb t (g .order) || ltb w (workLength g)) none
 
 -- the file, x or y, and the length of the work table: of level and of level across
 unfoldable pub levelRefusal : List ℕ → ℕ → ℕ → Refusal
-levelRefusal f x w =
-    orElse (fileRefusal f)
-    (cond (ltb w (workLength (graphOf f))) (plain 9)
-    (cond (eqb x 0) (plain 12)
-    none))
+levelRefusal f x w = inOrder f (ltb w (workLength (graphOf f))) (cond (eqb x 0) (plain 12) none)
 
 -- the file and the length of the work table
 unfoldable pub equalLevelRefusal : List ℕ → ℕ → Refusal
-equalLevelRefusal f w =
-    orElse (fileRefusal f)
-    (cond (ltb w (workLength (graphOf f))) (plain 9)
-    none)
+equalLevelRefusal f w = inOrder f (ltb w (workLength (graphOf f))) none
 
 -- the file, and the lengths of the two groups and of the work table
 unfoldable pub findingRefusal : List ℕ → ℕ → ℕ → ℕ → Refusal
 findingRefusal f s t w =
-    orElse (coreRefusal f s t w)
-    (cond (eqb (graphOf f .size) 0) (plain 13)
-    none)
+    let g = graphOf f in
+    inOrder f (ltb s (g .order) || ltb t (g .order) || ltb w (workLength g)) (cond (eqb (g .size) 0) (plain 13) none)
 
 -- the file and the length of the output
 unfoldable pub writeRefusal : List ℕ → ℕ → Refusal
-writeRefusal f o =
-    orElse (fileRefusal f)
-    (cond (ltb o (fileLength (graphOf f))) (plain 9)
-    none)
+writeRefusal f o = inOrder f (ltb o (fileLength (graphOf f))) none

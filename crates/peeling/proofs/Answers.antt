@@ -29,22 +29,22 @@ use Rattle.peeling.proofs.Bytes.{written-group, written}
 
 -- what a peel by a scope is for a graph of the scope's numbers of vertices and edges
 pub ended-peeling : {g : Graph} {c : Scope} {w w′ : List ℕ} {p : Peel} → Tabled g (c .order) (c .size) w → Ended true c w w′ p
-    → Peeling (g .order) (g .size) (need (g .order) (c .x) (c .y)) w′ p
-ended-peeling t e = rw (t .order, t .size) (e .peeling)
+    → Peeling (g .order) (c .size) (need (g .order) (c .x) (c .y)) w′ p
+ended-peeling t e = rw (t .order) (e .peeling)
 
 -- the peel's table holds the graph still
-pub ended-indexed : {g : Graph} {c : Scope} {w w′ : List ℕ} {p : Peel} → Tabled g (c .order) (c .size) w → Ended true c w w′ p → Indexed g w′
+pub ended-indexed : {g : Graph} {c : Scope} {w w′ : List ℕ} {p : Peel} → Tabled g (c .order) (c .size) w → Ended true c w w′ p → Indexed g (c .size) w′
 ended-indexed t e = tabled-kept t (e .kept) .indexed
 
 module _ {c : Scope} {w w′ : List ℕ} {p : Peel} (e : Ended true c w w′ p) {g : Graph} (t : Tabled g (c .order) (c .size) w) {A B : Group}
-    (a : (u : ℕ) → u < g .order → A u ≡ leb (c .x) (degreeOf (g .order) (g .size) w′ u))
-    (b : (v : ℕ) → v < g .order → B v ≡ leb (c .y) (degreeOf (g .order) (g .size) w′ (g .order + v))) where
+    (a : (u : ℕ) → u < g .order → A u ≡ leb (c .x) (degreeOf (g .order) (c .size) w′ u))
+    (b : (v : ℕ) → v < g .order → B v ≡ leb (c .y) (degreeOf (g .order) (c .size) w′ (g .order + v))) where
   -- the sources left are the first group
-  sources-same : Same g (left (g .order) (g .size) w′ p) A
+  sources-same : Same g (left (g .order) (c .size) w′ p) A
   sources-same u l = left-source (c .x) (c .y) (t .closed) (ended-indexed t e) (ended-peeling t e) u l ∙ sym (a u l)
 
   -- the targets left the second
-  targets-same : Same g (targets g (left (g .order) (g .size) w′ p)) B
+  targets-same : Same g (targets g (left (g .order) (c .size) w′ p)) B
   targets-same v l = left-target (c .x) (c .y) (t .closed) (ended-indexed t e) (ended-peeling t e) v l ∙ sym (b v l)
 
   -- they are the core
@@ -63,7 +63,7 @@ module _ {c : Scope} {w w′ : List ℕ} {p : Peel} (e : Ended true c w w′ p) 
       ended-peeling t e .counts .targets ∙ sum-ext (g .order) (λ v l. rw (targets-same v l))
 
   -- and its table their edges
-  ended-edges : sum (λ u. if (leb (c .x) (degreeOf (g .order) (g .size) w′ u)) (degreeOf (g .order) (g .size) w′ u)) (g .order) ≡ edges g A B
+  ended-edges : sum (λ u. if (leb (c .x) (degreeOf (g .order) (c .size) w′ u)) (degreeOf (g .order) (c .size) w′ u)) (g .order) ≡ edges g A B
   ended-edges =
       sum-ext (g .order) (λ u l. rw (left-source (c .x) (c .y) (t .closed) (ended-indexed t e) (ended-peeling t e) u l))
       ∙ sym (finished-edges (c .x) (c .y) (t .closed) (ended-indexed t e) (ended-peeling t e) (e .drained refl))
@@ -76,13 +76,13 @@ module _ {c : Scope} {w w′ s′ t′ : List ℕ} {p : Peel} {r : Totals} (s t 
     (sources : r .sources ≡ p .sources) (targets : r .targets ≡ p .targets) (total : r .edges ≡ weightOf w′ at (c .x) (c .order)) where
   -- the bytes of the first group are by the degrees of the sources
   bytes-source : {g : Graph} → Tabled g (c .order) (c .size) w → (u : ℕ) → u < g .order
-      → groupOf s′ u ≡ leb (c .x) (degreeOf (g .order) (g .size) w′ u)
-  bytes-source k u l = rw (k .order, k .size, ← start) (written-group (c .order) (atLeast w′ at (c .x)) s first u (omega (arith, k .order)))
+      → groupOf s′ u ≡ leb (c .x) (degreeOf (g .order) (c .size) w′ u)
+  bytes-source k u l = rw (k .order, ← start) (written-group (c .order) (atLeast w′ at (c .x)) s first u (omega (arith, k .order)))
 
   -- those of the second by the degrees of the targets
   bytes-target : {g : Graph} → Tabled g (c .order) (c .size) w → (v : ℕ) → v < g .order
-      → groupOf t′ v ≡ leb (c .y) (degreeOf (g .order) (g .size) w′ (g .order + v))
-  bytes-target k v l = rw (k .order, k .size, ← start, ← add-assoc at (c .order) v) (written-group (c .order) (atLeast w′ (at + c .order) (c .y)) t second v (omega (arith, k .order)))
+      → groupOf t′ v ≡ leb (c .y) (degreeOf (g .order) (c .size) w′ (g .order + v))
+  bytes-target k v l = rw (k .order, ← start, ← add-assoc at (c .order) v) (written-group (c .order) (atLeast w′ (at + c .order) (c .y)) t second v (omega (arith, k .order)))
 
   -- so the call's answer is right
   pub core-in : CoreIn c w w′ s s′ t t′ r
@@ -102,5 +102,5 @@ module _ {c : Scope} {w w′ s′ t′ : List ℕ} {p : Peel} {r : Totals} (s t 
     where
       same-total : {g : Graph} → Tabled g (c .order) (c .size) w
           → weightOf w′ at (c .x) (c .order)
-          ≡ sum (λ u. if (leb (c .x) (degreeOf (g .order) (g .size) w′ u)) (degreeOf (g .order) (g .size) w′ u)) (g .order)
-      same-total k = rw (k .order, k .size, start)
+          ≡ sum (λ u. if (leb (c .x) (degreeOf (g .order) (c .size) w′ u)) (degreeOf (g .order) (c .size) w′ u)) (g .order)
+      same-total k = rw (k .order, start)

@@ -19,17 +19,17 @@ use Rattle.graph.proofs.Cover.{surrounds-covers, settled-core, edges-places, ne
 use Rattle.peeling.specs.declared.Peel.{Peel}
 use Rattle.peeling.specs.Peeling.{degreeOf, links, left, Indexed, Peeling}
 
-module _ {g : Graph} (x y : ℕ) {w : List ℕ} {s : Peel} (c : Closed g) (i : Indexed g w) (k : Peeling (g .order) (g .size) (need (g .order) x y) w s) where
+module _ {g : Graph} (x y : ℕ) {m : ℕ} {w : List ℕ} {s : Peel} (c : Closed g) (i : Indexed g m w) (k : Peeling (g .order) m (need (g .order) x y) w s) where
   -- the places that are left
   abbrev rest : Group
-  rest = left (g .order) (g .size) w s
+  rest = left (g .order) m w s
 
   -- they are those with enough edges: x for a source
-  pub left-source : (u : ℕ) → u < g .order → rest u ≡ leb x (degreeOf (g .order) (g .size) w u)
+  pub left-source : (u : ℕ) → u < g .order → rest u ≡ leb x (degreeOf (g .order) m w u)
   left-source u l = rw (need-source (g .order) x y l) at (k .queue .short u (omega arith))
 
   -- and y for a target
-  pub left-target : (v : ℕ) → v < g .order → rest (g .order + v) ≡ leb y (degreeOf (g .order) (g .size) w (g .order + v))
+  pub left-target : (v : ℕ) → v < g .order → rest (g .order + v) ≡ leb y (degreeOf (g .order) m w (g .order + v))
   left-target v l = rw (need-target (g .order) x y v) at (k .queue .short (g .order + v) (omega arith))
 
   -- they surround every settled set
@@ -45,7 +45,7 @@ module _ {g : Graph} (x y : ℕ) {w : List ℕ} {s : Peel} (c : Closed g) (i : I
   -- no place waits any more
   module _ (e : s .head ≡ s .tail) where
     -- then the table has their degrees among themselves
-    pub finished-degree : (p : ℕ) → p < 2 * g .order → degreeOf (g .order) (g .size) w p ≡ degree (joined g) (2 * g .order) rest p
+    pub finished-degree : (p : ℕ) → p < 2 * g .order → degreeOf (g .order) m w p ≡ degree (joined g) (2 * g .order) rest p
     finished-degree p l = rw (← e) (k .degrees p l ∙ degree-links (links (g .order) w) (joined g) _ p (λ q b. i .linked p q l b))
 
     -- so they are settled
@@ -57,5 +57,5 @@ module _ {g : Graph} (x y : ℕ) {w : List ℕ} {s : Peel} (c : Closed g) (i : I
     finished-core = settled-core c rest settled surrounds
 
     -- the table has its edges
-    pub finished-edges : edges g rest (targets g rest) ≡ sum (λ u. if (rest u) (degreeOf (g .order) (g .size) w u)) (g .order)
+    pub finished-edges : edges g rest (targets g rest) ≡ sum (λ u. if (rest u) (degreeOf (g .order) m w u)) (g .order)
     finished-edges = edges-places c rest ∙ sum-ext (g .order) (λ u l. rw (finished-degree u (omega arith)))

@@ -75,18 +75,12 @@ module _ {n m : ℕ} {w w′ : List ℕ} (r : Rows n m w) (k : Kept n m w w′) 
       ∙ degree-same (links n w′) (λ q b. live-ext h e q) p
 
 -- the rows of a graph are so still
-pub indexed-kept : {g : Graph} {w w′ : List ℕ} → Indexed g w → Kept (g .order) (g .size) w w′ → Indexed g w′
+pub indexed-kept : {g : Graph} {m : ℕ} {w w′ : List ℕ} → Indexed g m w → Kept (g .order) m w w′ → Indexed g m w′
 indexed-kept i k = record { rows = rows-kept (i .rows) k; linked = λ p q a b. links-kept (i .rows) k p q a ∙ i .linked p q a b }
 
--- and so for its numbers of vertices and edges
+-- and so for its number of vertices
 pub tabled-kept : {g : Graph} {n m : ℕ} {w w′ : List ℕ} → Tabled g n m w → Kept n m w w′ → Tabled g n m w′
-tabled-kept t k =
-    record {
-      closed = t .closed;
-      indexed = indexed-kept (t .indexed) (rw (t .order, t .size) k);
-      order = t .order;
-      size = t .size;
-    }
+tabled-kept t k = record { closed = t .closed; indexed = indexed-kept (t .indexed) (rw (t .order) k); order = t .order }
 
 -- a peel has come to its end from every table whose rows its table keeps
 pub ended-from : {drain : Bool} {c : Scope} {v w w′ : List ℕ} {s : Peel} → Ended drain c w w′ s → Kept (c .order) (c .size) v w′ → Ended drain c v w′ s

@@ -70,19 +70,19 @@ module _ {n m : ℕ} (rise : Rise) (fixed k : ℕ) {w : List ℕ} {s : Peel}
     -- so when none waits, for every graph of the table, they are a pair that is dense for what is asked at r
     pub least-reached : s .head ≡ s .tail → {g : Graph} → Tabled g n m w → (1 ≤ s .sources) → (1 ≤ s .targets) → Reached g rise fixed r
     least-reached done {g} t a b =
-        nonempty (t .closed) (settled-dense (t .closed) (left (g .order) (g .size) w s) .0 settled)
+        nonempty (t .closed) (settled-dense (t .closed) (left (g .order) m w s) .0 settled)
         (omega (arith, peeling .counts .sources)) (omega (arith, peeling .counts .targets))
       where
-        peeling : Peeling (g .order) (g .size) (need (g .order) (ofSources rise fixed k) (ofTargets rise fixed k)) w s
-        peeling = rw (t .order, t .size) e
+        peeling : Peeling (g .order) m (need (g .order) (ofSources rise fixed k) (ofTargets rise fixed k)) w s
+        peeling = rw (t .order) e
 
-        settled : Settled (joined g) (2 * g .order) (need (g .order) (ofSources rise fixed r) (ofTargets rise fixed r)) (left (g .order) (g .size) w s)
+        settled : Settled (joined g) (2 * g .order) (need (g .order) (ofSources rise fixed r) (ofTargets rise fixed r)) (left (g .order) m w s)
         settled =
             record {
-              enough = λ p l h. rw (← finished-degree _ _ (t .closed) (t .indexed) peeling done p l, t .order, t .size)
-                  (left-more p (omega (arith, t .order)) (rw (← t .order, ← t .size) h));
+              enough = λ p l h. rw (← finished-degree _ _ (t .closed) (t .indexed) peeling done p l, t .order)
+                  (left-more p (omega (arith, t .order)) (rw (← t .order) h));
             }
 
   -- where a side is empty, the core asked for at k is, for every graph of the table
   pub emptied-stops : {g : Graph} → Tabled g n m w → emptied s ≡ true → ¬ Reached g rise fixed k
-  emptied-stops t z h = sides-none s z (left-both _ _ {s = s} (t .closed) (t .indexed) (rw (t .order, t .size) e) h)
+  emptied-stops t z h = sides-none s z (left-both _ _ {s = s} (t .closed) (t .indexed) (rw (t .order) e) h)

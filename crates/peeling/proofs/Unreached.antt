@@ -19,9 +19,9 @@ use Rattle.peeling.proofs.Kept.{start-kept}
 use Rattle.peeling.proofs.Whole.{row-degree}
 
 -- the edges of a place to the places of a set are at most those to all places, the entries of its row
-row-most : {g : Graph} {w : List ℕ} → Indexed g w → (R : Group) (p : ℕ) → p < 2 * g .order → degree (joined g) (2 * g .order) R p ≤ rowLength w p
+row-most : {g : Graph} {m : ℕ} {w : List ℕ} → Indexed g m w → (R : Group) (p : ℕ) → p < 2 * g .order → degree (joined g) (2 * g .order) R p ≤ rowLength w p
 unfolding live
-row-most {g} {w} i R p l =
+row-most {g} {w = w} i R p l =
     omega (
       arith,
       degree-links (links (g .order) w) (joined g) R p (λ q b. i .linked p q l b),

@@ -58,17 +58,17 @@ pub record Rows (n m : ℕ) (w : List ℕ) : Type 0 where
   pub inside : (k : ℕ) → k < 2 * m → rowEntry n w k < 2 * n
   pub symmetric : (p q : ℕ) → p < 2 * n → q < 2 * n → links n w p q ≡ links n w q p
 
--- the rows are those of the graph
-pub record Indexed (g : Graph) (w : List ℕ) : Type 0 where
-  pub rows : Rows (g .order) (g .size) w
+-- the rows are those of the graph, in a table with room for m edges
+pub record Indexed (g : Graph) (m : ℕ) (w : List ℕ) : Type 0 where
+  pub rows : Rows (g .order) m w
   pub linked : (p q : ℕ) → p < 2 * g .order → q < 2 * g .order → links (g .order) w p q ≡ joined g p q
 
--- the table holds the rows of the graph, which has n vertices and m edges
+-- The table holds the rows of the graph, which has n vertices; m is the room for edges, whatever the graph's own size. An edge of weight 0
+-- stands in no row.
 pub record Tabled (g : Graph) (n m : ℕ) (w : List ℕ) : Type 0 where
   pub closed : Closed g
-  pub indexed : Indexed g w
+  pub indexed : Indexed g m w
   pub order : g .order ≡ n
-  pub size : g .size ≡ m
 
 -- the places that are not among the first h of the queue
 unfoldable pub live : (ℕ → ℕ) → ℕ → Group

@@ -2,6 +2,7 @@
 -- the answer tells the refusal or the finding.
 use Prim.Native.Nat.{ℕ}
 use mathlib.Core.List.{List}
+use mathlib.Core.Logic.{_≢_}
 use mathlib.Core.Path.{_≡_, sym, ap, _∙_}
 use native.Mathlib.Decide.{decLe}
 use native.Mathlib.Omega.{arith}
@@ -9,40 +10,34 @@ use borrow.Author.Tests.{le-ltb}
 use lib.ListN.{length}
 use Rattle.network.specs.declared.Refusal.{Refusal}
 use Rattle.network.specs.File.{graphOf, none, fileRefusal}
-use Rattle.network.specs.Refusals.{workLength, coreRefusal, findingRefusal}
+use Rattle.network.specs.Refusals.{workLength, findingRefusal}
 use Rattle.network.specs.Sides.{Sound}
 use Rattle.network.specs.Calls.{refused, accepted}
 use Rattle.network.proofs.Accepted.{file-proper}
 use Rattle.network.proofs.Accepted as file
 use Rattle.network.proofs.Answers.{refusal-some, orElse-first, orElse-second}
-use Rattle.cores.proofs.CoreCalls.{core-ready}
 use Rattle.finding.specs.declared.Ring.{Ring}
 use Rattle.finding.specs.declared.FindingAnswer.{FindingAnswer}
 use Rattle.finding.specs.declared.FindingAnswer.the-variants.{Found, Refused}
 use Rattle.finding.specs.Findings.{FindingTold, FindingCall}
-use Rattle.finding.proofs.FindingCalls.{finding-accepted}
+use Rattle.finding.proofs.FindingCalls.{finding-sound}
 use Rattle.report.specs.Text.{refusalText, reportText}
 use Rattle.report.specs.Put.{Begins}
 use Rattle.vouch_report.specs.Printed.{numbersOf, printedRefusal, Laid}
 
--- tables for the largest file are long enough for every file
-core-full : (f : List ℕ) → coreRefusal f 2048 2048 28674 ≡ fileRefusal f
-unfolding coreRefusal
-core-full f =
+-- tables for the largest file are long enough for every file, so that the finding is refused as the program says
+pub finding-full : (f : List ℕ) → findingRefusal f 2048 2048 28674 ≡ printedRefusal f
+unfolding findingRefusal printedRefusal
+finding-full f =
     elim (decLe (fileRefusal f .number) 0) [
-      | no n ↦ orElse-first _ (λ i. n (omega (arith, i)))
+      | no n ↦ let k : fileRefusal f .number ≢ 0 = λ i. n (omega (arith, i)) in orElse-first _ k ∙ sym (orElse-first _ k)
       | yes z ↦ let e = file-proper f .number-none (omega (arith, z)) in
           let a = file.accepted f .0 e in
           orElse-second _ e ∙ rw (
             le-ltb 2048 (graphOf f .order) (a .order-most),
             le-ltb 28674 (workLength (graphOf f)) (omega (arith, a .order-most, a .size-most)),
-          ) (sym e)
+          ) (sym (orElse-second _ e))
     ]
-
--- so that the finding is refused as the program says
-pub finding-full : (f : List ℕ) → findingRefusal f 2048 2048 28674 ≡ printedRefusal f
-unfolding findingRefusal printedRefusal
-finding-full f = rw (core-full f)
 
 -- the lengths of the program's tables
 abbrev pub Full : List ℕ → List ℕ → List ℕ → Type 0
@@ -75,7 +70,7 @@ module _ {f s s′ t t′ w w′ : List ℕ} {a : FindingAnswer} (z : Full s t w
 
   -- so its file is accepted,
   pub found-sound : (g : Ring) → a ≡ Found g → Sound f
-  found-sound g i = core-ready f _ _ _ (finding-accepted f _ _ _ (found-told g i .0)) .sound
+  found-sound g i = finding-sound f _ _ _ (found-told g i .0)
 
   -- and its report is printed
   pub laid-found : {before after : List ℕ} {r : ℕ} (g : Ring) → a ≡ Found g → {n : ℕ} → n ≡ graphOf f .order → Begins before (reportText (numbersOf g) s′ t′ n) after r → Laid f before after r

@@ -6,13 +6,6 @@ use Rattle.vouch_report.proofs.Printing.{found-sound, laid-refused, lai
 use borrow.Author.Needs.{needs}
 use Rattle.vouch_report.proofs.lay.Statement.{statement}
 use Rattle.vouch_report.proofs.lay.Tie as tie
-use Rattle.vouch_report.proofs.lay.Reads as reads
-use Rattle.vouch_report.proofs.lay.Lts as lts
-use Rattle.finding.proofs.finding.Reads as finding-reads
-use Rattle.network.proofs.u16_at.Reads as u16-at-reads
-use Rattle.report.proofs.put_refusal.Reads as put-refusal-reads
-use Rattle.report.proofs.put_report.Reads as put-report-reads
-use Rattle.vouch_report.proofs.numbers_of.Reads as numbers-of-reads
 
 slice-aggregate-finding : tie.Need-slice-aggregate-finding
 slice-aggregate-finding c = search needs

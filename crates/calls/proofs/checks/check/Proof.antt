@@ -9,10 +9,6 @@ use Rattle.network.proofs.Answers.{call-refused}
 use borrow.Author.Needs.{needs}
 use Rattle.calls.proofs.checks.check.Statement.{statement}
 use Rattle.calls.proofs.checks.check.Tie as tie
-use Rattle.calls.proofs.checks.check.Reads as reads
-use Rattle.calls.proofs.checks.check.Lts as lts
-use Rattle.calls.proofs.checks.file_refusal.Reads as file-refusal-reads
-use Rattle.network.proofs.u16_at.Reads as u16-at-reads
 
 file-refusal-requires : tie.Need-file-refusal-requires
 file-refusal-requires c κs = search needs

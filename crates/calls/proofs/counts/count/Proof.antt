@@ -16,13 +16,6 @@ use Rattle.network.proofs.Counted.{count-file, count-short, count-short-other, 
 use borrow.Author.Needs.{needs}
 use Rattle.calls.proofs.counts.count.Statement.{statement}
 use Rattle.calls.proofs.counts.count.Tie as tie
-use Rattle.calls.proofs.counts.count.Reads as reads
-use Rattle.calls.proofs.counts.count.Lts as lts
-use Rattle.calls.proofs.checks.file_refusal.Reads as file-refusal-reads
-use Rattle.calls.proofs.counts.edges_between.Reads as edges-between-reads
-use Rattle.calls.proofs.counts.is_group.Reads as is-group-reads
-use Rattle.calls.proofs.counts.size_of.Reads as size-of-reads
-use Rattle.network.proofs.u16_at.Reads as u16-at-reads
 
 file-refusal-requires : tie.Need-file-refusal-requires
 file-refusal-requires c κs = search needs
@@ -30,8 +23,7 @@ file-refusal-requires c κs = search needs
 returns : tie.Need-returns
 returns c =
     let a = c .before .before .before .before .before .before .args in
-    let e = c .before .before .file-refusal .ensures in
-    call-refused (e ∙ count-file (a .file .now) (a .s .now) (a .t .now) (λ z. c .if1 .taken (ap (λ r. r .number) e ∙ z))) (c .if1 .taken)
+    call-refused (count-file (a .file .now) (a .s .now) (a .t .now) (c .before .before .file-refusal .ensures) (c .if1 .taken)) (c .if1 .taken)
 
 -- the function's entry
 abbrev start : tie.Else1 → tie.Start

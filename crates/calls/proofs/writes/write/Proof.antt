@@ -17,12 +17,6 @@ use Rattle.calls.proofs.Itself.{written-itself}
 use borrow.Author.Needs.{needs}
 use Rattle.calls.proofs.writes.write.Statement.{statement}
 use Rattle.calls.proofs.writes.write.Tie as tie
-use Rattle.calls.proofs.writes.write.Reads as reads
-use Rattle.calls.proofs.writes.write.Lts as lts
-use Rattle.calls.proofs.checks.file_state.Reads as file-state-reads
-use Rattle.calls.proofs.writes.copy.Reads as copy-reads
-use Rattle.calls.proofs.writes.put_file.Reads as put-file-reads
-use Rattle.network.proofs.u16_at.Reads as u16-at-reads
 
 slice-aggregate-file-state : tie.Need-slice-aggregate-file-state
 slice-aggregate-file-state c = search needs
@@ -33,8 +27,7 @@ file-state-requires c κs = search needs
 returns : tie.Need-returns
 returns c =
     let a = c .before .before .before .before .before .before .before .before .args in
-    let e = c .before .before .before .before .file-state .ensures .0 in
-    call-refused (e ∙ write-file (a .file .now) (length (a .out .now)) (λ z. c .if1 .taken (ap (λ r. r .number) e ∙ z))) (c .if1 .taken)
+    call-refused (write-file (a .file .now) (length (a .out .now)) (c .before .before .before .before .file-state .ensures .0) (c .if1 .taken)) (c .if1 .taken)
 
 -- the function's entry
 abbrev start : tie.Else1 → tie.Start

@@ -1,0 +1,122 @@
+-- The way in: its refusal under each condition, that of every call on cores, and what its answers tell.
+use Prim.Native.Nat.{ℕ, _+_, _*_, _≤_}
+use mathlib.Core.Bool.{Bool, cond, _||_, or-true}
+use mathlib.Core.List.{List}
+use mathlib.Core.Logic.{_≢_}
+use mathlib.Core.Path.{_≡_, refl, sym, ap, subst, _∙_}
+use native.Mathlib.Decide.{decLt}
+use native.Mathlib.Omega.{arith}
+use borrow.Author.Tests.{ltb-false, lt-ltb, le-ltb}
+use lib.Dec.{ltb}
+use lib.ListN.{length, drop}
+use Rattle.network.specs.declared.Refusal.{Refusal}
+use Rattle.network.specs.declared.Totals.{Totals}
+use Rattle.network.specs.File.{graphOf, groupOf, none, plain, fileRefusal}
+use Rattle.network.specs.Refusals.{workLength, coreRefusal, levelRefusal, equalLevelRefusal, findingRefusal}
+use Rattle.network.specs.Tables.{GroupIn}
+use Rattle.network.specs.Counts.{totals}
+use Rattle.network.specs.Sides.{Sound}
+use Rattle.network.specs.Calls.{refused, accepted}
+use Rattle.network.proofs.Accepted.{cond-none, or-fails}
+use Rattle.network.proofs.Answers.{orElse-found, orElse-second}
+use Rattle.peeling.specs.Peeling.{Small, Rows, Tabled, Kept}
+use Rattle.cores.specs.declared.Ask.{Ask}
+use Rattle.cores.specs.declared.Ask.the-variants.{Nothing, NotZero, SomeLink}
+use Rattle.cores.specs.declared.Entry.{Entry}
+use Rattle.cores.specs.declared.Entry.the-variants.{Ready, Refused}
+use Rattle.cores.specs.Places.{Places}
+use Rattle.cores.specs.Calls.{WorkKept, GroupsTold}
+use Rattle.cores.specs.Entries.{laterRefusal, entryRefusal, Entered, EntryCall}
+use Rattle.cores.proofs.PlacesIndexed.{places-indexed}
+
+module _ (ask : Ask) (f : List ℕ) (s t w : ℕ) where
+  -- the file's own refusal comes first
+  pub entry-file : {q : Refusal} → q ≡ fileRefusal f → q .number ≢ 0 → q ≡ entryRefusal ask f s t w
+  unfolding entryRefusal
+  entry-file = orElse-found _
+
+  -- then the later one
+  pub entry-later : {q : Refusal} → fileRefusal f ≡ none → q ≡ laterRefusal ask (graphOf f .order) (graphOf f .size) s t w → q ≡ entryRefusal ask f s t w
+  unfolding entryRefusal
+  entry-later e i = i ∙ sym (orElse-second _ e)
+
+-- where no later one is given, the tables are long enough
+pub later-long : (ask : Ask) (n m s t w : ℕ) → laterRefusal ask n m s t w ≡ none → (n ≤ s) × (n ≤ t) × (2 * m + 6 * n + 2 ≤ w)
+later-long ask n m s t w e =
+    let (b, i) = cond-none _ (plain 9) _ refl .0 e in
+    let (c, d) = or-fails (ltb s n || ltb t n) (ltb w (2 * m + 6 * n + 2)) .0 b in
+    let (p, q) = or-fails (ltb s n) (ltb t n) .0 c in
+    (ltb-false _ _ p, ltb-false _ _ q, ltb-false _ _ d)
+
+-- the refusal of the core call is that of the way in,
+pub core-entry : (f : List ℕ) (s t w : ℕ) → entryRefusal Nothing f s t w ≡ coreRefusal f s t w
+unfolding entryRefusal coreRefusal
+core-entry f s t w = refl
+
+-- with a link asked for that of the finding,
+pub finding-entry : (f : List ℕ) (s t w : ℕ) → entryRefusal SomeLink f s t w ≡ findingRefusal f s t w
+unfolding entryRefusal findingRefusal
+finding-entry f s t w = refl
+
+-- groups as long as the work table are not short where that is not,
+no-groups : (n m w : ℕ) → (ltb w n || ltb w n || ltb w (2 * m + 6 * n + 2)) ≡ ltb w (2 * m + 6 * n + 2)
+no-groups n m w =
+    elim (decLt w n) [
+      | yes l ↦ rw (lt-ltb w n l, lt-ltb w (2 * m + 6 * n + 2) (omega arith))
+      | no l ↦ rw (le-ltb w n (omega arith))
+    ]
+
+-- so with these lengths it is that of the equal level,
+pub equal-entry : (f : List ℕ) (w : ℕ) → entryRefusal Nothing f w w w ≡ equalLevelRefusal f w
+unfolding entryRefusal equalLevelRefusal
+equal-entry f w = rw (no-groups (graphOf f .order) (graphOf f .size) w)
+
+-- and with a number asked for that of a level
+pub level-entry : (f : List ℕ) (x w : ℕ) → entryRefusal (NotZero x) f w w w ≡ levelRefusal f x w
+unfolding entryRefusal levelRefusal
+level-entry f x w = rw (no-groups (graphOf f .order) (graphOf f .size) w)
+
+module _ (f : List ℕ) (ask : Ask) (s t : ℕ) (w w′ : List ℕ) {a : Entry} (c : EntryCall f ask s t w w′ a) where
+  -- a way in that is refused leaves the work table as it was
+  pub entry-refused : (q : Refusal) → a ≡ Refused q → (q ≡ entryRefusal ask f s t (length w)) × (q .number ≢ 0) × (w′ ≡ w)
+  entry-refused q i = elim c [
+    | refused n j k ↦ let e : q ≡ entryRefusal ask f s t (length w) = cc in (e, rw (← e) at n, cc)
+    | accepted v n j d ↦ absurd (let x : _≡_ {A = ℕ} 0 1 = cc in omega arith)
+  ]
+
+  -- any other lays the network into it
+  pub entry-ready : (n m : ℕ) → a ≡ Ready n m → (entryRefusal ask f s t (length w) ≡ none) × Entered f s t w w′ n m
+  entry-ready n m i = elim c [
+    | refused k j l ↦ absurd (let x : _≡_ {A = ℕ} 0 1 = cc in omega arith)
+    | accepted v e j d ↦ let x : v .0 ≡ n = cc in let y : v .1 ≡ m = cc in (e, rw (x, y) at d)
+  ]
+
+-- the table holds the network of the file
+pub file-tabled : {f : List ℕ} {n m : ℕ} {w : List ℕ} → Sound f → Places (graphOf f) w → n ≡ graphOf f .order → m ≡ graphOf f .size → Tabled (graphOf f) n m w
+file-tabled s p i j = record { closed = s .closed; indexed = rw j (places-indexed (s .closed) (λ e l. refl) p); order = sym i }
+
+-- and its numbers are small
+pub file-small : {f : List ℕ} {n m : ℕ} → Sound f → n ≡ graphOf f .order → m ≡ graphOf f .size → Small n m
+file-small s i j = record { order = omega (arith, i, s .order-most); size = omega (arith, j, s .size-most) }
+
+module _ {f : List ℕ} {s t : ℕ} {w w₁ : List ℕ} {n m : ℕ} (i : Entered f s t w w₁ n m) where
+  -- the rows of the table can be walked
+  pub entered-rows : Rows n m w₁
+  entered-rows = rw (i .tabled .order) at (i .tabled .indexed .rows)
+
+  -- what a walk leaves past the entries that are needed is what was there at first
+  pub entered-kept : {w₂ : List ℕ} → Kept n m w₁ w₂ → WorkKept f w w₂
+  entered-kept {w₂} k =
+      let c : 2 * m + 6 * n + 2 ≡ workLength (graphOf f) = rw (i .tabled .order, i .size) in
+      (k .same-length ∙ i .work .0, subst (λ c. drop c w₂ ≡ drop c w₁) c (k .past) ∙ i .work .1)
+
+  -- so groups of n bytes that it writes and counts are those of the file
+  pub entered-groups : {w₂ a a′ b b′ : List ℕ} {r : Totals} → Kept n m w₁ w₂ → GroupIn n a a′ → GroupIn n b b′ → r ≡ totals (graphOf f) (groupOf a′) (groupOf b′)
+      → GroupsTold f a a′ b b′ w w₂ r
+  entered-groups {a = a} {a′} {b} {b′} k p q e =
+      record {
+        counted = e;
+        sources = subst (λ n. GroupIn n a a′) (sym (i .tabled .order)) p;
+        targets = subst (λ n. GroupIn n b b′) (sym (i .tabled .order)) q;
+        work = entered-kept k;
+      }
