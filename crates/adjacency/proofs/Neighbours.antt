@@ -1,7 +1,7 @@
 -- In the tables of an index each vertex has a row, and it is the neighbours of the vertex, ascending: the places of its neighbours run
 -- from its start to the next start. A lent table may be longer than the index: what stands past it, p and q, is not looked at.
 use Prim.Native.Nat.{ℕ, suc, _+_, _-_, _<_, _≤_}
-use mathlib.Core.List.{List, [], _++_, append-nil, append-cancel-left}
+use mathlib.Core.List.{List, _++_, append-cancel-left}
 use mathlib.Core.Path.{_≡_, sym, ap, _∙_}
 use native.Mathlib.Numerals.{add-one}
 use native.Mathlib.Omega.{arith}
@@ -9,7 +9,8 @@ use borrow.Author.Tests.{ltb-true, lt-ltb}
 use lib.Dec.{ltb}
 use lib.ListN.{length, getD, take, length-append, List·getD-append}
 use lib.Seq.{take-add, take-append-le}
-use Rattle.graph.specs.Graph.{Graph, Closed, Simple, reverse}
+use Rattle.graph.specs.Graph.{Graph, reverse}
+use Rattle.graph.specs.Shapes.{Closed, Simple}
 use Rattle.graph.specs.Order.{edgeAt, below, starts, rows}
 use Rattle.graph.proofs.Tests.{if-mono, if-le}
 use Rattle.graph.proofs.Sums.{sum-mono, sum-ones}
@@ -17,14 +18,13 @@ use Rattle.graph.proofs.Ranges.{length-table, getD-table}
 use Rattle.graph.proofs.Degrees.{closed-reverse}
 use Rattle.network.specs.declared.Side.{Side}
 use Rattle.network.specs.declared.Side.the-variants.{Source, Target}
-use Rattle.network.specs.File.{graphOf, none, fileRefusal}
+use Rattle.network.specs.File.{graphOf, none}
 use Rattle.network.specs.Refusals.{rowRefusal}
 use Rattle.network.specs.Sides.{seen}
-use Rattle.network.specs.Tables.{outStarts, outRows, inStarts, inRows}
-use Rattle.adjacency.specs.Rows.{RowCall, bySide}
+use Rattle.adjacency.specs.Calls.{RowCall, bySide}
 use Rattle.adjacency.specs.Neighbours.{neighbours}
 use Rattle.adjacency.proofs.Refusals.{Row, row-accepted}
-use Rattle.network.proofs.Accepted.{Accepted, accepted, accepted-closed, accepted-simple}
+use Rattle.network.specs.Accepted.{Accepted}
 use Rattle.adjacency.proofs.Places.{place, place-first, place-last, rows-to}
 
 -- starts ascend
@@ -98,24 +98,9 @@ module _ (g : Graph) (p q : List ℕ) (u : ℕ) (l : u < g .order) where
       prefix : (a : ℕ) → a ≤ g .order → take (getD (starts g ++ p) a 0) (rows g ++ q) ≡ take (getD (starts g ++ p) a 0) (rows g)
       prefix a h = take-append-le (getD (starts g ++ p) a 0) (rows g) q (omega (arith, start-of g p a h, below-le g a, length-rows g))
 
--- of the tables alone, no row is refused
-pub row-given : (g : Graph) (u : ℕ) → u < g .order → rowRefusal (starts g) (rows g) u ≡ none
-row-given g u l = rw (append-nil (starts g), append-nil (rows g)) at (index-accepted g [] [] u l)
-
--- and each is the neighbours of its vertex
-pub row-neighbours : {g : Graph} → Closed g → Simple g → (u : ℕ) → u < g .order → {r : List ℕ} → RowCall (starts g) (rows g) u r → r ≡ neighbours g u
-row-neighbours {g} closed simple u l c =
-    index-neighbours g [] [] u l closed simple (rw (append-nil (starts g), append-nil (rows g)) c)
-
--- in the tables that the index call fills for an accepted file, from either side
-module _ (f : List ℕ) (h : fileRefusal f ≡ none) (os or is ir : List ℕ) (u : ℕ) (l : u < graphOf f .order) where
-  -- the file is accepted
-  ok : Accepted f
-  ok = accepted f .0 h
-
-  -- the row of a vertex is its neighbours, ascending
-  pub file-neighbours : (side : Side) {r : List ℕ}
-      → RowCall (bySide side (outStarts f ++ os) (inStarts f ++ is)) (bySide side (outRows f ++ or) (inRows f ++ ir)) u r → r ≡ neighbours (seen side (graphOf f)) u
-  file-neighbours Source c = index-neighbours (graphOf f) os or u l (accepted-closed ok) (accepted-simple ok) c
-  file-neighbours Target c =
-      index-neighbours (reverse (graphOf f)) is ir u l (closed-reverse (accepted-closed ok)) (λ d e m n s t. accepted-simple ok d e m n t s) c
+-- in the tables that the index call fills for an accepted file, the row of a vertex is its neighbours, ascending, from either side
+pub file-neighbours : {f : List ℕ} → Accepted f → (side : Side) (os or is ir : List ℕ) (u : ℕ) → u < graphOf f .order → {r : List ℕ} → let g = graphOf f in
+    RowCall (bySide side (starts g ++ os) (starts (reverse g) ++ is)) (bySide side (rows g ++ or) (rows (reverse g) ++ ir)) u r → r ≡ neighbours (seen side g) u
+file-neighbours {f} a Source os or is ir u l c = index-neighbours (graphOf f) os or u l (a .sound .closed) (a .simple) c
+file-neighbours {f} a Target os or is ir u l c =
+    index-neighbours (reverse (graphOf f)) is ir u l (closed-reverse (a .sound .closed)) (λ d e m n s t. a .simple d e m n t s) c

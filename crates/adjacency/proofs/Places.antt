@@ -14,8 +14,10 @@ use lib.Dec.{eqb, ltb}
 use lib.ListN.{getD, take}
 use lib.Seq.{take-suc}
 use Rattle.graph.specs.Range.{sum, if, first, flat}
-use Rattle.graph.specs.Graph.{Graph, Closed, Simple}
-use Rattle.graph.specs.Order.{lexicographic, rankBy, rank, edgeAt, below, rows}
+use Rattle.graph.specs.Graph.{Graph}
+use Rattle.graph.specs.Shapes.{Closed, Simple}
+use Rattle.graph.specs.Order.{lexicographic, rankBy, edgeAt, below, rows}
+use Rattle.graph.specs.Sorting.{rank}
 use Rattle.graph.proofs.Tests.{and-left, and-right, test-ext}
 use Rattle.graph.proofs.Sums.{sum-ext, sum-add, sum-none, sum-pick, below-suc}
 use Rattle.graph.proofs.Ranges.{first-passes, first-before, length-table, getD-table}

@@ -1,3 +1,2 @@
-pub mod Rows
+pub mod Calls
 pub mod Neighbours
-pub mod Indexes

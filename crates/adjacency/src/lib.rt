@@ -11,8 +11,7 @@ pub enum IndexAnswer {
 }
 
 pub use indexes::index;
-pub use indexes::lay_rows;
-pub use rows::refusal_of;
 pub use rows::row;
+pub use rows::row_number;
 pub use rows::row_of;
 pub use rows::row_refusal;

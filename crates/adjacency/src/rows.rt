@@ -3,10 +3,10 @@ use network::Side;
 use network::wide16;
 ghost use mathlib.Core.Path.{_≡_};
 ghost use Rattle.network.specs.Refusals.{rowRefusal};
-ghost use Rattle.adjacency.specs.Rows.{RowCall, bySide};
+ghost use Rattle.adjacency.specs.Calls.{RowCall, bySide};
 
 // The number that refuses a row of one side's tables, or 0.
-pub fn refusal_of(starts: &[u16], rows: &[u16], member: usize) -> u16
+pub fn row_number(starts: &[u16], rows: &[u16], member: usize) -> u16
     ensures { λ r. ⌜ r ≡ (rowRefusal (now (starts .entry)) (now (rows .entry)) member) .number ⌝ }
 {
     if starts.len() < 1 {
@@ -30,7 +30,7 @@ pub fn refusal_of(starts: &[u16], rows: &[u16], member: usize) -> u16
 pub fn row_of<'a>(starts: &[u16], rows: &'a [u16], member: usize) -> &'a [u16]
     ensures { λ r. ⌜ RowCall (now (starts .entry)) (now (rows .entry)) member (now r) ⌝ }
 {
-    if refusal_of(starts, rows, member) != 0 {
+    if row_number(starts, rows, member) != 0 {
         return &rows[0..0];
     }
     let from = wide16(starts[member]);
@@ -38,13 +38,14 @@ pub fn row_of<'a>(starts: &[u16], rows: &'a [u16], member: usize) -> &'a [u16]
     &rows[from..to]
 }
 
-// The row of a vertex as a source or as a target: only that side's tables are looked at.
+// The row of a vertex as a source or as a target: only that side's tables are looked at. The result has the life of the rows tables alone, so that
+// it can be a part of one of these two and of nothing else.
 pub fn row<'a>(
     side: Side,
     member: usize,
-    out_starts: &'a [u16],
+    out_starts: &[u16],
     out_rows: &'a [u16],
-    in_starts: &'a [u16],
+    in_starts: &[u16],
     in_rows: &'a [u16],
 ) -> &'a [u16]
     ensures { λ r. ⌜ RowCall
@@ -74,7 +75,7 @@ pub fn row_refusal(
         member) .number ⌝ }
 {
     match side {
-        Side::Source => refusal_of(out_starts, out_rows, member),
-        Side::Target => refusal_of(in_starts, in_rows, member),
+        Side::Source => row_number(out_starts, out_rows, member),
+        Side::Target => row_number(in_starts, in_rows, member),
     }
 }

@@ -1,9 +1,15 @@
 // The check of a file: the numbers 1 to 8, in order.
+use crate::CheckAnswer;
 use crate::FileState;
-use network::CheckAnswer;
+use network::MOST_LINKS;
+use network::MOST_MEMBERS;
 use network::Refusal;
 use network::Side;
 use network::end_at;
+use network::is_marked;
+use network::link_at;
+use network::order_of;
+use network::size_of;
 use network::u16_at;
 use network::wide16;
 use ordering::count_up;
@@ -11,30 +17,16 @@ use ordering::order;
 ghost use mathlib.Core.Path.{_≡_};
 ghost use mathlib.Core.Logic.{_≢_};
 ghost use mathlib.Core.Bool.{true, false, cond, _&&_};
-ghost use Prim.Native.Nat.{_+_, _*_, _<_, _≤_};
+ghost use Prim.Native.Nat.{_≤_};
 ghost use lib.Dec.{ltb};
 ghost use lib.ListN.{length};
-ghost use Rattle.graph.specs.Graph.{Closed};
-ghost use Rattle.graph.specs.Order.{Sorted, precedes};
-ghost use Rattle.network.specs.File.{graphOf, marked, outside, same, repeat, at, none, fileRefusal};
-ghost use Rattle.network.specs.Sides.{Sound};
-ghost use Rattle.network.specs.Checks.{Header, HeaderNumber, CheckCall, ascends};
-ghost use Rattle.ordering.specs.Ascents.{Ascending};
-
-// 01: bytes 0 to 2 are the mark.
-fn is_marked(file: &[u8]) -> bool
-    requires { ⌜ 9 ≤ length (now file) ⌝ }
-    ensures { λ r. ⌜ r ≡ marked (now (file .entry)) ⌝ }
-{
-    let mark = b"VCH";
-    if file[0] != mark[0] {
-        return false;
-    }
-    if file[1] != mark[1] {
-        return false;
-    }
-    file[2] == mark[2]
-}
+ghost use Rattle.graph.specs.Shapes.{Closed};
+ghost use Rattle.graph.specs.Order.{precedes, ascends, Ascending};
+ghost use Rattle.graph.specs.Sorting.{Sorted};
+ghost use Rattle.network.specs.File.{mostLinks, graphOf, outside, same, repeat, none, fileRefusal};
+ghost use Rattle.network.specs.Accepted.{Header, Sound, Holds};
+ghost use Rattle.calls.specs.Headers.{HeaderNumber};
+ghost use Rattle.calls.specs.Calls.{CheckCall};
 
 // The number that the first 9 bytes and the length give, 1 to 6, or 0.
 fn header_number(file: &[u8]) -> u16
@@ -43,20 +35,20 @@ fn header_number(file: &[u8]) -> u16
     if file.len() < 9 {
         return 1;
     }
-    if !is_marked(file) {
+    if !is_marked(file, b"VCH") {
         return 2;
     }
     if u16_at(file, 3) != 1 {
         return 3;
     }
-    if 2048 < u16_at(file, 5) {
+    if MOST_MEMBERS < order_of(file) {
         return 4;
     }
-    let size = u16_at(file, 7);
-    if 8192 < size {
+    let size = size_of(file);
+    if MOST_LINKS < size {
         return 5;
     }
-    if file.len() != 9 + 4 * size {
+    if file.len() != link_at(size) {
         return 6;
     }
     0
@@ -73,12 +65,14 @@ fn is_inside(file: &[u8]) -> bool
     requires { ⌜ Header (now file) ⌝ }
     ensures { λ r. ⌜ (r ≡ true → Closed (graphOf (now (file .entry)))) ⌝ }
 {
-    let ends = 2 * u16_at(file, 7);
-    let mut greatest: u16 = 0;
-    for i in 0..ends {
-        greatest = greater(greatest, u16_at(file, 9 + 2 * i) as u16);
+    let size = size_of(file);
+    let mut source: u16 = 0;
+    let mut target: u16 = 0;
+    for e in 0..size {
+        source = greater(source, end_at(file, Side::Source, e) as u16);
+        target = greater(target, end_at(file, Side::Target, e) as u16);
     }
-    wide16(greatest) < u16_at(file, 5)
+    wide16(greater(source, target)) < order_of(file)
 }
 
 // The first edge that names a vertex not below n, or m, by a pass that ends there.
@@ -86,8 +80,8 @@ fn search_outside(file: &[u8]) -> usize
     requires { ⌜ Header (now file) ⌝ }
     ensures { λ r. ⌜ r ≡ outside (graphOf (now (file .entry))) ⌝ }
 {
-    let order = u16_at(file, 5);
-    let size = u16_at(file, 7);
+    let order = order_of(file);
+    let size = size_of(file);
     for e in 0..size {
         if order <= end_at(file, Side::Source, e) {
             return e;
@@ -105,13 +99,13 @@ fn first_outside(file: &[u8]) -> usize
     ensures { λ r. ⌜ r ≡ outside (graphOf (now (file .entry))) ⌝ }
 {
     if is_inside(file) {
-        return u16_at(file, 7);
+        return size_of(file);
     }
     search_outside(file)
 }
 
 fn is_same(file: &[u8], d: usize, e: usize) -> bool
-    requires { ⌜ (13 + 4 * d ≤ length (now file)) × (13 + 4 * e ≤ length (now file)) ⌝ }
+    requires { ⌜ Holds (now file) d × Holds (now file) e ⌝ }
     ensures { λ r. ⌜ r ≡ same (graphOf (now (file .entry))) d e ⌝ }
 {
     if end_at(file, Side::Source, d) != end_at(file, Side::Source, e) {
@@ -122,7 +116,7 @@ fn is_same(file: &[u8], d: usize, e: usize) -> bool
 
 // Whether edge d comes before edge e and is not the same.
 fn is_before(file: &[u8], d: usize, e: usize) -> bool
-    requires { ⌜ (13 + 4 * d ≤ length (now file)) × (13 + 4 * e ≤ length (now file)) ⌝ }
+    requires { ⌜ Holds (now file) d × Holds (now file) e ⌝ }
     ensures { λ r. ⌜ r ≡ ascends (graphOf (now (file .entry))) d e ⌝ }
 {
     let source = end_at(file, Side::Source, d);
@@ -141,7 +135,7 @@ fn is_ascending(file: &[u8]) -> bool
     requires { ⌜ Sound (now file) ⌝ }
     ensures { λ r. ⌜ (r ≡ true → Ascending (graphOf (now (file .entry)))) ⌝ }
 {
-    let size = u16_at(file, 7);
+    let size = size_of(file);
     let mut e = 1;
     while e < size {
         if !is_before(file, e - 1, e) {
@@ -153,8 +147,8 @@ fn is_ascending(file: &[u8]) -> bool
 }
 
 // `edge` where it is less than `least` and repeats the edge before it, else `least`.
-fn lesser(file: &[u8], before: usize, edge: usize, least: usize) -> usize
-    requires { ⌜ (13 + 4 * before ≤ length (now file)) × (13 + 4 * edge ≤ length (now file)) ⌝ }
+fn lesser_repeat(file: &[u8], before: usize, edge: usize, least: usize) -> usize
+    requires { ⌜ Holds (now file) before × Holds (now file) edge ⌝ }
     ensures { λ r. ⌜ r ≡ cond (ltb edge least && same (graphOf (now (file .entry))) before edge) edge least ⌝ }
 {
     if least <= edge {
@@ -173,13 +167,13 @@ fn least_repeat(file: &[u8], order: &[u16]) -> usize
     requires { ⌜ Sorted (precedes (graphOf (now file))) (graphOf (now file) .size) (now order) ⌝ }
     ensures { λ r. ⌜ r ≡ repeat (graphOf (now (file .entry))) ⌝ }
 {
-    let size = u16_at(file, 7);
+    let size = size_of(file);
     let mut least = size;
     let mut i = 1;
     while i < size {
         let before = wide16(order[i - 1]);
         let edge = wide16(order[i]);
-        least = lesser(file, before, edge, least);
+        least = lesser_repeat(file, before, edge, least);
         i += 1;
     }
     least
@@ -198,15 +192,11 @@ fn first_repeat(file: &[u8], sorted: &mut [u16]) -> usize
 }
 
 // A refusal, or none, of a file that is not known to ascend.
-fn unordered(number: u16, link: usize) -> FileState
-    requires { ⌜ link < 65536 ⌝ }
-    ensures { λ r. ⌜ (r .refusal ≡ at number link) × (r .ascending ≡ false) ⌝ }
+fn unordered(refusal: Refusal) -> FileState
+    ensures { λ r. ⌜ (r .refusal ≡ refusal) × (r .ascending ≡ false) ⌝ }
 {
     FileState {
-        refusal: Refusal {
-            number,
-            link: link as u16,
-        },
+        refusal,
         ascending: false,
     }
 }
@@ -216,48 +206,45 @@ fn unordered(number: u16, link: usize) -> FileState
 fn front_state(file: &[u8]) -> FileState
     ensures { λ r. ⌜ (r .refusal .number ≢ 0 → r .refusal ≡ fileRefusal (now (file .entry))) ⌝ }
     ensures { λ r. ⌜ (r .ascending ≡ true → Ascending (graphOf (now (file .entry))) × (r .refusal ≡ fileRefusal (now (file .entry)))) ⌝ }
-    ensures { λ r. ⌜ (r .refusal .number ≡ 0 → Header (now (file .entry)) × (outside (graphOf (now (file .entry))) ≡ graphOf (now (file .entry)) .size)) ⌝ }
+    ensures { λ r. ⌜ (r .refusal .number ≡ 0 → Sound (now (file .entry))) ⌝ }
 {
     let number = header_number(file);
     if number != 0 {
-        return unordered(number, 0);
+        return unordered(Refusal::plain(number));
     }
-    let size = u16_at(file, 7);
+    let size = size_of(file);
     let outside = first_outside(file);
     if outside < size {
-        return unordered(7, outside);
+        return unordered(Refusal::at(7, outside));
     }
     if is_ascending(file) {
         return FileState {
-            refusal: Refusal { number: 0, link: 0 },
+            refusal: Refusal::none(),
             ascending: true,
         };
     }
-    unordered(0, 0)
+    unordered(Refusal::none())
 }
 
 // 8 or none, of a file that passes the other tests. The order that shows it is left for the caller.
 fn repeat_refusal(file: &[u8], sorted: &mut [u16]) -> Refusal
-    requires { ⌜ Header (now file) × (outside (graphOf (now file)) ≡ graphOf (now file) .size) ⌝ }
-    requires { ⌜ 8192 ≤ length (now sorted) ⌝ }
+    requires { ⌜ Sound (now file) ⌝ }
+    requires { ⌜ mostLinks ≤ length (now sorted) ⌝ }
     ensures { λ r. ⌜ r ≡ fileRefusal (now (file .entry)) ⌝ }
     ensures { λ _. ⌜ Sorted (precedes (graphOf (now (file .entry)))) (graphOf (now (file .entry)) .size) (now (sorted .exit)) ⌝ }
     ensures { λ _. ⌜ length (now (sorted .exit)) ≡ length (now (sorted .entry)) ⌝ }
 {
     let repeat = first_repeat(file, sorted);
-    if repeat < u16_at(file, 7) {
-        return Refusal {
-            number: 8,
-            link: repeat as u16,
-        };
+    if repeat < size_of(file) {
+        return Refusal::at(8, repeat);
     }
-    Refusal { number: 0, link: 0 }
+    Refusal::none()
 }
 
 // The refusal that the file's own bytes give, and whether its edges ascend as they stand. Where it gives none and they do not, they had to be
 // sorted, and `sorted` holds their order.
 pub fn file_state(file: &[u8], sorted: &mut [u16]) -> FileState
-    requires { ⌜ 8192 ≤ length (now sorted) ⌝ }
+    requires { ⌜ mostLinks ≤ length (now sorted) ⌝ }
     ensures { λ r. ⌜ r .refusal ≡ fileRefusal (now (file .entry)) ⌝ }
     ensures { λ r. ⌜ (r .ascending ≡ true → Ascending (graphOf (now (file .entry)))) ⌝ }
     ensures { λ r. ⌜ (r .refusal ≡ none → r .ascending ≡ false → Sorted (precedes (graphOf (now (file .entry)))) (graphOf (now (file .entry)) .size) (now (sorted .exit))) ⌝ }
@@ -287,13 +274,13 @@ pub fn file_refusal(file: &[u8]) -> Refusal
     if state.ascending {
         return state.refusal;
     }
-    let mut sorted = [0u16; 8192];
+    let mut sorted = [0u16; MOST_LINKS];
     repeat_refusal(file, &mut sorted)
 }
 
 // The same refusal, and where it is none the edges in order, for the calls that need them so: edges that ascend are in order by their numbers.
 pub fn refusal_with_order(file: &[u8], sorted: &mut [u16]) -> Refusal
-    requires { ⌜ 8192 ≤ length (now sorted) ⌝ }
+    requires { ⌜ mostLinks ≤ length (now sorted) ⌝ }
     ensures { λ r. ⌜ r ≡ fileRefusal (now (file .entry)) ⌝ }
     ensures { λ r. ⌜ (r ≡ none → Sorted (precedes (graphOf (now (file .entry)))) (graphOf (now (file .entry)) .size) (now (sorted .exit))) ⌝ }
     ensures { λ _. ⌜ length (now (sorted .exit)) ≡ length (now (sorted .entry)) ⌝ }
@@ -304,7 +291,7 @@ pub fn refusal_with_order(file: &[u8], sorted: &mut [u16]) -> Refusal
         return refusal;
     }
     if state.ascending {
-        count_up(u16_at(file, 7), sorted);
+        count_up(size_of(file), sorted);
     }
     refusal
 }
@@ -318,7 +305,7 @@ pub fn check(file: &[u8]) -> CheckAnswer
         return CheckAnswer::Refused(refusal);
     }
     CheckAnswer::Accepted {
-        order: u16_at(file, 5),
-        size: u16_at(file, 7),
+        order: order_of(file),
+        size: size_of(file),
     }
 }

@@ -1,11 +1,12 @@
 // The edges between two groups, and the groups' sizes.
 use crate::checks::file_refusal;
-use network::CountAnswer;
 use network::Refusal;
 use network::Side;
 use network::Totals;
+use network::TotalsAnswer;
 use network::end_at;
-use network::u16_at;
+use network::order_of;
+use network::size_of;
 ghost use mathlib.Core.Bool.{true, _&&_};
 ghost use mathlib.Core.Path.{_≡_};
 ghost use Prim.Native.Nat.{_≤_};
@@ -13,10 +14,10 @@ ghost use lib.Dec.{eqb};
 ghost use lib.ListN.{length};
 ghost use Rattle.graph.specs.Range.{sum, if};
 ghost use Rattle.graph.specs.Graph.{edges};
-ghost use Rattle.network.specs.File.{graphOf, groupOf};
-ghost use Rattle.network.specs.Refusals.{isGroup};
-ghost use Rattle.network.specs.Sides.{Sound};
-ghost use Rattle.network.specs.Counts.{CountCall};
+ghost use Rattle.network.specs.File.{graphOf};
+ghost use Rattle.network.specs.Groups.{groupOf, isGroup};
+ghost use Rattle.network.specs.Accepted.{Sound};
+ghost use Rattle.calls.specs.Calls.{CountCall};
 
 // Whether each of the first n bytes is 0 or 1.
 fn is_group(group: &[u8], n: usize) -> bool
@@ -49,7 +50,7 @@ fn both(source: u8, target: u8) -> u32
 }
 
 // 01: the size of a group.
-pub fn size_of(group: &[u8], n: usize) -> usize
+fn group_size(group: &[u8], n: usize) -> usize
     requires { ⌜ n ≤ length (now group) ⌝ }
     ensures { λ r. ⌜ r ≡ sum (λ u. if (groupOf (now (group .entry)) u) 1) n ⌝ }
 {
@@ -61,12 +62,12 @@ pub fn size_of(group: &[u8], n: usize) -> usize
 }
 
 // 01: E(S,T).
-pub fn edges_between(file: &[u8], s: &[u8], t: &[u8]) -> u32
+fn edges_between(file: &[u8], s: &[u8], t: &[u8]) -> u32
     requires { ⌜ Sound (now file) ⌝ }
     requires { ⌜ (graphOf (now file) .order ≤ length (now s)) × (graphOf (now file) .order ≤ length (now t)) ⌝ }
     ensures { λ r. ⌜ r ≡ edges (graphOf (now (file .entry))) (groupOf (now (s .entry))) (groupOf (now (t .entry))) ⌝ }
 {
-    let size = u16_at(file, 7);
+    let size = size_of(file);
     let mut total: u32 = 0;
     for e in 0..size {
         let source = end_at(file, Side::Source, e);
@@ -77,35 +78,29 @@ pub fn edges_between(file: &[u8], s: &[u8], t: &[u8]) -> u32
 }
 
 // 01: the count call.
-pub fn count(file: &[u8], s: &[u8], t: &[u8]) -> CountAnswer
+pub fn count(file: &[u8], s: &[u8], t: &[u8]) -> TotalsAnswer
     ensures { λ r. ⌜ CountCall (now (file .entry)) (now (s .entry)) (now (t .entry)) r ⌝ }
 {
     let refusal = file_refusal(file);
     if refusal.number != 0 {
-        return CountAnswer::Refused(refusal);
+        return TotalsAnswer::Refused(refusal);
     }
-    let n = u16_at(file, 5);
+    let n = order_of(file);
     if s.len() < n {
-        return CountAnswer::Refused(Refusal { number: 9, link: 0 });
+        return TotalsAnswer::Refused(Refusal::plain(9));
     }
     if t.len() < n {
-        return CountAnswer::Refused(Refusal { number: 9, link: 0 });
+        return TotalsAnswer::Refused(Refusal::plain(9));
     }
     if !is_group(s, n) {
-        return CountAnswer::Refused(Refusal {
-            number: 11,
-            link: 0,
-        });
+        return TotalsAnswer::Refused(Refusal::plain(11));
     }
     if !is_group(t, n) {
-        return CountAnswer::Refused(Refusal {
-            number: 11,
-            link: 0,
-        });
+        return TotalsAnswer::Refused(Refusal::plain(11));
     }
-    CountAnswer::Counted(Totals {
+    TotalsAnswer::Counted(Totals {
         edges: edges_between(file, s, t),
-        sources: size_of(s, n),
-        targets: size_of(t, n),
+        sources: group_size(s, n),
+        targets: group_size(t, n),
     })
 }

@@ -5,6 +5,18 @@ mod writes;
 
 use network::Refusal;
 
+// What the check answers: n and m, or the refusal.
+pub enum CheckAnswer {
+    Accepted { order: usize, size: usize },
+    Refused(Refusal),
+}
+
+// What the writer answers: m, or the refusal.
+pub enum WriteAnswer {
+    Written { size: usize },
+    Refused(Refusal),
+}
+
 // What a file's own bytes tell: the refusal that they give, and whether the edges ascend as they stand.
 pub struct FileState {
     pub refusal: Refusal,

@@ -9,7 +9,8 @@ use native.Mathlib.Omega.{arith}
 use borrow.Author.Tests.{ltb-true, leb-true, eqb-true, le-leb, eq-eqb, not-true}
 use lib.Dec.{eqb, leb, ltb}
 use lib.ListN.{length}
-use Rattle.graph.specs.Graph.{Graph, Closed, Group, card, edges, total}
+use Rattle.graph.specs.Graph.{Graph, Group, card, edges}
+use Rattle.graph.specs.Shapes.{Closed, total}
 use Rattle.graph.specs.Core.{Inside, Dense, Core, Nonempty, Greatest, Before, Finding}
 use Rattle.graph.proofs.Tests.{and-left, and-right}
 use Rattle.graph.proofs.Sums.{below-suc}
@@ -205,7 +206,7 @@ holds f (finding x y k S T E) =
     isAccepted f
     && (isFinding (graphOf f) x y (members S) (members T) && (isLast (graphOf f) (λ j. j) (λ j. j) k && isCounts (graphOf f) S T E))
 holds f (gives r) = isRefusal (fileRefusal f) r
-holds f (findingGives r) = isRefusal (findingRefusal f (graphOf f .order) (graphOf f .order) (workLength (graphOf f))) r
+holds f (findingGives r) = isRefusal (findingRefusal f (graphOf f .order) (graphOf f .order) (workLength (graphOf f .order) (graphOf f .size))) r
 
 -- a claim that passes its test holds
 holds-sound : (f : List ℕ) (c : Claim) → holds f c ≡ true → Says f c
@@ -234,7 +235,7 @@ holds-sound f (finding x y j S T E) h =
       counts = counts-sound (graphOf f) S T E q;
     }
 holds-sound f (gives r) h = refusal-sound (fileRefusal f) r h
-holds-sound f (findingGives r) h = refusal-sound (findingRefusal f (graphOf f .order) (graphOf f .order) (workLength (graphOf f))) r h
+holds-sound f (findingGives r) h = refusal-sound (findingRefusal f (graphOf f .order) (graphOf f .order) (workLength (graphOf f .order) (graphOf f .size))) r h
 
 -- the test of every case of a table
 abbrev pub allHold : List Case → Bool

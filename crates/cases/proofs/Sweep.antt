@@ -8,12 +8,12 @@ use native.Mathlib.Nat.{le-trans}
 use borrow.Author.Tests.{le-leb}
 use lib.Dec.{eqb, leb}
 use Rattle.graph.specs.Range.{if}
-use Rattle.graph.specs.Graph.{Graph, Closed, Group, outDegree, inDegree}
+use Rattle.graph.specs.Graph.{Graph, Group, outDegree, inDegree}
+use Rattle.graph.specs.Shapes.{Closed}
 use Rattle.graph.specs.Core.{Covers}
 use Rattle.graph.proofs.Ranges.{getD-table}
 use Rattle.graph.proofs.Degrees.{only, edges-mono}
-use Rattle.network.specs.File.{groupOf}
-use Rattle.network.specs.Tables.{bytesOf}
+use Rattle.network.specs.Groups.{groupOf, bytesOf}
 
 -- the bytes of a group give the group back
 bytes-group : (n : ℕ) (S : Group) (u : ℕ) → u < n → groupOf (bytesOf n S) u ≡ S u

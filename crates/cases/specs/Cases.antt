@@ -10,20 +10,12 @@ use Rattle.graph.specs.Core.{Core, Level, LevelAcross, EqualLevel, Finding}
 use Rattle.network.specs.declared.Refusal.{Refusal}
 use Rattle.network.specs.File.{graphOf, none, plain, at, fileRefusal}
 use Rattle.network.specs.Refusals.{workLength, findingRefusal}
-use Rattle.network.specs.Tables.{u16}
+use Rattle.network.specs.Bytes.{header, edgeBytes}
 
 -- the group of the listed members
 abbrev pub members : List ℕ → Group
 members [] u = false
 members (v ∷ s) u = eqb u v || members s u
-
--- the first 9 bytes of a file: mark, version 1, n and m
-abbrev pub head : ℕ → ℕ → List ℕ
-head n m = (0x56 ∷ 0x43 ∷ 0x48 ∷ []) ++ u16 1 ++ u16 n ++ u16 m
-
--- the four bytes of a link: voucher, then vouched
-abbrev pub link : ℕ → ℕ → List ℕ
-link u v = u16 u ++ u16 v
 
 -- what 01 says of a network; S and T list members
 pub data Claim : Type 0 where
@@ -66,7 +58,7 @@ Says f (level x y) = (fileRefusal f ≡ none) × Level (graphOf f) x y
 Says f (across y x) = (fileRefusal f ≡ none) × LevelAcross (graphOf f) y x
 Says f (finding x y k S T E) = SaysFinding f x y k S T E
 Says f (gives r) = fileRefusal f ≡ r
-Says f (findingGives r) = findingRefusal f (graphOf f .order) (graphOf f .order) (workLength (graphOf f)) ≡ r
+Says f (findingGives r) = findingRefusal f (graphOf f .order) (graphOf f .order) (workLength (graphOf f .order) (graphOf f .size)) ≡ r
 
 -- a file and one claim on it
 pub record Case : Type 0 where
@@ -75,7 +67,7 @@ pub record Case : Type 0 where
 
 -- network W
 abbrev pub W : List ℕ
-W = head 6 8 ++ link 0 3 ++ link 0 4 ++ link 1 3 ++ link 1 4 ++ link 2 3 ++ link 2 4 ++ link 4 5 ++ link 5 5
+W = header 6 8 ++ edgeBytes 0 3 ++ edgeBytes 0 4 ++ edgeBytes 1 3 ++ edgeBytes 1 4 ++ edgeBytes 2 3 ++ edgeBytes 2 4 ++ edgeBytes 4 5 ++ edgeBytes 5 5
 
 -- one case of the table
 abbrev pub says : List ℕ → Claim → Case
@@ -100,23 +92,23 @@ cases =
     -- the report on W
     ∷ says W (finding 2 3 2 (0 ∷ 1 ∷ 2 ∷ []) (3 ∷ 4 ∷ []) 6)
     -- P6
-    ∷ says (head 4 3 ++ link 0 1 ++ link 0 2 ++ link 0 3) (finding 3 1 1 (0 ∷ []) (1 ∷ 2 ∷ 3 ∷ []) 3)
+    ∷ says (header 4 3 ++ edgeBytes 0 1 ++ edgeBytes 0 2 ++ edgeBytes 0 3) (finding 3 1 1 (0 ∷ []) (1 ∷ 2 ∷ 3 ∷ []) 3)
     -- P7
-    ∷ says (head 6 4 ++ link 0 1 ++ link 0 2 ++ link 3 5 ++ link 4 5) (finding 1 2 1 (3 ∷ 4 ∷ []) (5 ∷ []) 2)
+    ∷ says (header 6 4 ++ edgeBytes 0 1 ++ edgeBytes 0 2 ++ edgeBytes 3 5 ++ edgeBytes 4 5) (finding 1 2 1 (3 ∷ 4 ∷ []) (5 ∷ []) 2)
     -- P8
-    ∷ says (head 1 1 ++ link 0 0) (finding 1 1 1 (0 ∷ []) (0 ∷ []) 1)
+    ∷ says (header 1 1 ++ edgeBytes 0 0) (finding 1 1 1 (0 ∷ []) (0 ∷ []) 1)
     -- P9
-    ∷ says (head 1 0) (findingGives (plain 13))
+    ∷ says (header 1 0) (findingGives (plain 13))
     -- n: 2,048 is accepted, 2,049 is not
-    ∷ says (head 2048 0) (gives none)
-    ∷ says (head 2049 0) (gives (plain 4))
+    ∷ says (header 2048 0) (gives none)
+    ∷ says (header 2049 0) (gives (plain 4))
     -- m: of files with no link in them 8,192 is refused by the length, 8,193 by m itself
-    ∷ says (head 1 8192) (gives (plain 6))
-    ∷ says (head 1 8193) (gives (plain 5))
+    ∷ says (header 1 8192) (gives (plain 6))
+    ∷ says (header 1 8193) (gives (plain 5))
     -- a link that names n - 1 is accepted, one that names n or repeats an earlier one is refused with its number
-    ∷ says (head 3 1 ++ link 2 2) (gives none)
-    ∷ says (head 3 1 ++ link 2 3) (gives (at 7 0))
-    ∷ says (head 3 3 ++ link 0 1 ++ link 1 0 ++ link 0 1) (gives (at 8 2))
+    ∷ says (header 3 1 ++ edgeBytes 2 2) (gives none)
+    ∷ says (header 3 1 ++ edgeBytes 2 3) (gives (at 7 0))
+    ∷ says (header 3 3 ++ edgeBytes 0 1 ++ edgeBytes 1 0 ++ edgeBytes 0 1) (gives (at 8 2))
     ∷ []
 
 -- every case's claim holds

@@ -4,11 +4,10 @@ mod numbers;
 mod rows;
 
 use crate::numbers::check_numbers;
-use crate::numbers::core_numbers;
-use crate::numbers::count_numbers;
 use crate::numbers::finding_numbers;
 use crate::numbers::index_numbers;
 use crate::numbers::level_numbers;
+use crate::numbers::totals_numbers;
 use crate::numbers::write_numbers;
 use crate::rows::part_of;
 use cogsplice::Side;
@@ -16,14 +15,11 @@ ghost use mathlib.Core.Bool.{_&&_};
 ghost use mathlib.Core.Path.{_≡_};
 ghost use lib.Dec.{eqb};
 ghost use Rattle.network.specs.Refusals.{rowRefusal};
-ghost use Rattle.network.specs.Checks.{CheckCall};
-ghost use Rattle.network.specs.Counts.{CountCall};
-ghost use Rattle.network.specs.Writes.{WriteCall};
-ghost use Rattle.adjacency.specs.Rows.{bySide};
-ghost use Rattle.adjacency.specs.Indexes.{IndexCall};
+ghost use Rattle.calls.specs.Calls.{CheckCall, CountCall, WriteCall};
+ghost use Rattle.adjacency.specs.Calls.{bySide, IndexCall};
 ghost use Rattle.cores.specs.Calls.{CoreCall, LevelCall, LevelAcrossCall, EqualLevelCall};
 ghost use Rattle.finding.specs.Findings.{FindingCall};
-ghost use Rattle.cogsplice_c.specs.Told.{Told, PartOf, sideOf, checkNumbers, countNumbers, writeNumbers, indexNumbers, coreNumbers, levelNumbers, findingNumbers, ofCheck, ofTotals, ofWrite, ofIndex, ofLevel, ofFinding};
+ghost use Rattle.cogsplice_c.specs.Told.{Told, PartOf, sideOf, checkNumbers, totalsNumbers, writeNumbers, indexNumbers, levelNumbers, findingNumbers};
 
 // The numbers of the check: n and m.
 #[repr(C)]
@@ -90,21 +86,21 @@ pub struct FindingNumbers {
 
 #[no_mangle]
 pub extern "C" fn cogsplice_check(file: &[u8]) -> CheckNumbers
-    ensures { λ r. ⌜ Told (CheckCall (now (file .entry))) checkNumbers (ofCheck r) ⌝ }
+    ensures { λ r. ⌜ Told (CheckCall (now (file .entry))) checkNumbers r ⌝ }
 {
     check_numbers(cogsplice::check(file))
 }
 
 #[no_mangle]
 pub extern "C" fn cogsplice_count(file: &[u8], s: &[u8], t: &[u8]) -> TotalsNumbers
-    ensures { λ r. ⌜ Told (CountCall (now (file .entry)) (now (s .entry)) (now (t .entry))) countNumbers (ofTotals r) ⌝ }
+    ensures { λ r. ⌜ Told (CountCall (now (file .entry)) (now (s .entry)) (now (t .entry))) totalsNumbers r ⌝ }
 {
-    count_numbers(cogsplice::count(file, s, t))
+    totals_numbers(cogsplice::count(file, s, t))
 }
 
 #[no_mangle]
 pub extern "C" fn cogsplice_write(file: &[u8], out: &mut [u8]) -> WriteNumbers
-    ensures { λ r. ⌜ Told (WriteCall (now (file .entry)) (now (out .entry)) (now (out .exit))) writeNumbers (ofWrite r) ⌝ }
+    ensures { λ r. ⌜ Told (WriteCall (now (file .entry)) (now (out .entry)) (now (out .exit))) writeNumbers r ⌝ }
 {
     write_numbers(cogsplice::write(file, out))
 }
@@ -121,7 +117,7 @@ pub extern "C" fn cogsplice_index(
         (now («out_starts» .entry)) (now («out_starts» .exit))
         (now («out_rows» .entry)) (now («out_rows» .exit))
         (now («in_starts» .entry)) (now («in_starts» .exit))
-        (now («in_rows» .entry)) (now («in_rows» .exit))) indexNumbers (ofIndex r) ⌝ }
+        (now («in_rows» .entry)) (now («in_rows» .exit))) indexNumbers r ⌝ }
 {
     index_numbers(cogsplice::index(file, out_starts, out_rows, in_starts, in_rows))
 }
@@ -190,28 +186,28 @@ pub extern "C" fn cogsplice_core(
     t: &mut [u8],
     work: &mut [u16],
 ) -> TotalsNumbers
-    ensures { λ r. ⌜ Told (CoreCall (now (file .entry)) x y (now (s .entry)) (now (s .exit)) (now (t .entry)) (now (t .exit)) (now (work .entry)) (now (work .exit))) coreNumbers (ofTotals r) ⌝ }
+    ensures { λ r. ⌜ Told (CoreCall (now (file .entry)) x y (now (s .entry)) (now (s .exit)) (now (t .entry)) (now (t .exit)) (now (work .entry)) (now (work .exit))) totalsNumbers r ⌝ }
 {
-    core_numbers(cogsplice::core(file, x, y, s, t, work))
+    totals_numbers(cogsplice::core(file, x, y, s, t, work))
 }
 
 #[no_mangle]
 pub extern "C" fn cogsplice_level(file: &[u8], x: u16, work: &mut [u16]) -> LevelNumbers
-    ensures { λ r. ⌜ Told (LevelCall (now (file .entry)) x (now (work .entry)) (now (work .exit))) levelNumbers (ofLevel r) ⌝ }
+    ensures { λ r. ⌜ Told (LevelCall (now (file .entry)) x (now (work .entry)) (now (work .exit))) levelNumbers r ⌝ }
 {
     level_numbers(cogsplice::level(file, x, work))
 }
 
 #[no_mangle]
 pub extern "C" fn cogsplice_level_across(file: &[u8], y: u16, work: &mut [u16]) -> LevelNumbers
-    ensures { λ r. ⌜ Told (LevelAcrossCall (now (file .entry)) y (now (work .entry)) (now (work .exit))) levelNumbers (ofLevel r) ⌝ }
+    ensures { λ r. ⌜ Told (LevelAcrossCall (now (file .entry)) y (now (work .entry)) (now (work .exit))) levelNumbers r ⌝ }
 {
     level_numbers(cogsplice::level_across(file, y, work))
 }
 
 #[no_mangle]
 pub extern "C" fn cogsplice_equal_level(file: &[u8], work: &mut [u16]) -> LevelNumbers
-    ensures { λ r. ⌜ Told (EqualLevelCall (now (file .entry)) (now (work .entry)) (now (work .exit))) levelNumbers (ofLevel r) ⌝ }
+    ensures { λ r. ⌜ Told (EqualLevelCall (now (file .entry)) (now (work .entry)) (now (work .exit))) levelNumbers r ⌝ }
 {
     level_numbers(cogsplice::equal_level(file, work))
 }
@@ -223,7 +219,7 @@ pub extern "C" fn cogsplice_finding(
     t: &mut [u8],
     work: &mut [u16],
 ) -> FindingNumbers
-    ensures { λ r. ⌜ Told (FindingCall (now (file .entry)) (now (s .entry)) (now (s .exit)) (now (t .entry)) (now (t .exit)) (now (work .entry)) (now (work .exit))) findingNumbers (ofFinding r) ⌝ }
+    ensures { λ r. ⌜ Told (FindingCall (now (file .entry)) (now (s .entry)) (now (s .exit)) (now (t .entry)) (now (t .exit)) (now (work .entry)) (now (work .exit))) findingNumbers r ⌝ }
 {
     finding_numbers(cogsplice::finding(file, s, t, work))
 }

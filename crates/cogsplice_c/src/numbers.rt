@@ -6,20 +6,16 @@ use crate::LevelNumbers;
 use crate::TotalsNumbers;
 use crate::WriteNumbers;
 use cogsplice::CheckAnswer;
-use cogsplice::CoreAnswer;
-use cogsplice::CountAnswer;
 use cogsplice::FindingAnswer;
 use cogsplice::IndexAnswer;
 use cogsplice::LevelAnswer;
-use cogsplice::Refusal;
-use cogsplice::Totals;
+use cogsplice::TotalsAnswer;
 use cogsplice::WriteAnswer;
-ghost use mathlib.Core.List.{_∷_};
 ghost use mathlib.Core.Path.{_≡_};
-ghost use Rattle.cogsplice_c.specs.Told.{refused, totalsNumbers, checkNumbers, countNumbers, writeNumbers, indexNumbers, coreNumbers, levelNumbers, findingNumbers, ofCheck, ofTotals, ofWrite, ofIndex, ofLevel, ofFinding};
+ghost use Rattle.cogsplice_c.specs.Told.{checkNumbers, totalsNumbers, writeNumbers, indexNumbers, levelNumbers, findingNumbers};
 
 pub fn check_numbers(answer: CheckAnswer) -> CheckNumbers
-    ensures { λ r. ⌜ ofCheck r ≡ checkNumbers answer ⌝ }
+    ensures { λ r. ⌜ r ≡ checkNumbers answer ⌝ }
 {
     match answer {
         CheckAnswer::Accepted { order, size } => CheckNumbers {
@@ -37,50 +33,29 @@ pub fn check_numbers(answer: CheckAnswer) -> CheckNumbers
     }
 }
 
-fn counted(totals: Totals) -> TotalsNumbers
-    ensures { λ r. ⌜ ofTotals r ≡ 0 ∷ 0 ∷ totalsNumbers totals ⌝ }
-{
-    TotalsNumbers {
-        refusal: 0,
-        link: 0,
-        edges: totals.edges,
-        sources: totals.sources,
-        targets: totals.targets,
-    }
-}
-
-fn not_counted(refusal: Refusal) -> TotalsNumbers
-    ensures { λ r. ⌜ ofTotals r ≡ refused refusal 3 ⌝ }
-{
-    TotalsNumbers {
-        refusal: refusal.number,
-        link: refusal.link,
-        edges: 0,
-        sources: 0,
-        targets: 0,
-    }
-}
-
-pub fn count_numbers(answer: CountAnswer) -> TotalsNumbers
-    ensures { λ r. ⌜ ofTotals r ≡ countNumbers answer ⌝ }
+pub fn totals_numbers(answer: TotalsAnswer) -> TotalsNumbers
+    ensures { λ r. ⌜ r ≡ totalsNumbers answer ⌝ }
 {
     match answer {
-        CountAnswer::Counted(totals) => counted(totals),
-        CountAnswer::Refused(refusal) => not_counted(refusal),
-    }
-}
-
-pub fn core_numbers(answer: CoreAnswer) -> TotalsNumbers
-    ensures { λ r. ⌜ ofTotals r ≡ coreNumbers answer ⌝ }
-{
-    match answer {
-        CoreAnswer::Done(totals) => counted(totals),
-        CoreAnswer::Refused(refusal) => not_counted(refusal),
+        TotalsAnswer::Counted(totals) => TotalsNumbers {
+            refusal: 0,
+            link: 0,
+            edges: totals.edges,
+            sources: totals.sources,
+            targets: totals.targets,
+        },
+        TotalsAnswer::Refused(refusal) => TotalsNumbers {
+            refusal: refusal.number,
+            link: refusal.link,
+            edges: 0,
+            sources: 0,
+            targets: 0,
+        },
     }
 }
 
 pub fn write_numbers(answer: WriteAnswer) -> WriteNumbers
-    ensures { λ r. ⌜ ofWrite r ≡ writeNumbers answer ⌝ }
+    ensures { λ r. ⌜ r ≡ writeNumbers answer ⌝ }
 {
     match answer {
         WriteAnswer::Written { size } => WriteNumbers {
@@ -97,7 +72,7 @@ pub fn write_numbers(answer: WriteAnswer) -> WriteNumbers
 }
 
 pub fn index_numbers(answer: IndexAnswer) -> IndexNumbers
-    ensures { λ r. ⌜ ofIndex r ≡ indexNumbers answer ⌝ }
+    ensures { λ r. ⌜ r ≡ indexNumbers answer ⌝ }
 {
     match answer {
         IndexAnswer::Done => IndexNumbers {
@@ -112,7 +87,7 @@ pub fn index_numbers(answer: IndexAnswer) -> IndexNumbers
 }
 
 pub fn level_numbers(answer: LevelAnswer) -> LevelNumbers
-    ensures { λ r. ⌜ ofLevel r ≡ levelNumbers answer ⌝ }
+    ensures { λ r. ⌜ r ≡ levelNumbers answer ⌝ }
 {
     match answer {
         LevelAnswer::At(level) => LevelNumbers {
@@ -129,7 +104,7 @@ pub fn level_numbers(answer: LevelAnswer) -> LevelNumbers
 }
 
 pub fn finding_numbers(answer: FindingAnswer) -> FindingNumbers
-    ensures { λ r. ⌜ ofFinding r ≡ findingNumbers answer ⌝ }
+    ensures { λ r. ⌜ r ≡ findingNumbers answer ⌝ }
 {
     match answer {
         FindingAnswer::Found(ring) => FindingNumbers {

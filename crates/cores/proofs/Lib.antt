@@ -1,3 +1,1 @@
-pub mod PlacesIndexed
-pub mod PlacesFilled
 pub mod WayIn

@@ -1,9 +1,9 @@
 -- The way in: its refusal under each condition, that of every call on cores, and what its answers tell.
-use Prim.Native.Nat.{ℕ, _+_, _*_, _≤_}
-use mathlib.Core.Bool.{Bool, cond, _||_, or-true}
+use Prim.Native.Nat.{ℕ, _≤_}
+use mathlib.Core.Bool.{_||_}
 use mathlib.Core.List.{List}
 use mathlib.Core.Logic.{_≢_}
-use mathlib.Core.Path.{_≡_, refl, sym, ap, subst, _∙_}
+use mathlib.Core.Path.{_≡_, refl, sym, subst, _∙_}
 use native.Mathlib.Decide.{decLt}
 use native.Mathlib.Omega.{arith}
 use borrow.Author.Tests.{ltb-false, lt-ltb, le-ltb}
@@ -11,23 +11,19 @@ use lib.Dec.{ltb}
 use lib.ListN.{length, drop}
 use Rattle.network.specs.declared.Refusal.{Refusal}
 use Rattle.network.specs.declared.Totals.{Totals}
-use Rattle.network.specs.File.{graphOf, groupOf, none, plain, fileRefusal}
+use Rattle.network.specs.File.{graphOf, none, plain, fileRefusal}
+use Rattle.network.specs.Groups.{groupOf, GroupIn, totals}
 use Rattle.network.specs.Refusals.{workLength, coreRefusal, levelRefusal, equalLevelRefusal, findingRefusal}
-use Rattle.network.specs.Tables.{GroupIn}
-use Rattle.network.specs.Counts.{totals}
-use Rattle.network.specs.Sides.{Sound}
 use Rattle.network.specs.Calls.{refused, accepted}
 use Rattle.network.proofs.Accepted.{cond-none, or-fails}
 use Rattle.network.proofs.Answers.{orElse-found, orElse-second}
-use Rattle.peeling.specs.Peeling.{Small, Rows, Tabled, Kept}
+use Rattle.peeling.specs.Peeling.{Small, Rows, Kept}
 use Rattle.cores.specs.declared.Ask.{Ask}
 use Rattle.cores.specs.declared.Ask.the-variants.{Nothing, NotZero, SomeLink}
 use Rattle.cores.specs.declared.Entry.{Entry}
 use Rattle.cores.specs.declared.Entry.the-variants.{Ready, Refused}
-use Rattle.cores.specs.Places.{Places}
 use Rattle.cores.specs.Calls.{WorkKept, GroupsTold}
 use Rattle.cores.specs.Entries.{laterRefusal, entryRefusal, Entered, EntryCall}
-use Rattle.cores.proofs.PlacesIndexed.{places-indexed}
 
 module _ (ask : Ask) (f : List ℕ) (s t w : ℕ) where
   -- the file's own refusal comes first
@@ -41,10 +37,10 @@ module _ (ask : Ask) (f : List ℕ) (s t w : ℕ) where
   entry-later e i = i ∙ sym (orElse-second _ e)
 
 -- where no later one is given, the tables are long enough
-pub later-long : (ask : Ask) (n m s t w : ℕ) → laterRefusal ask n m s t w ≡ none → (n ≤ s) × (n ≤ t) × (2 * m + 6 * n + 2 ≤ w)
+pub later-long : (ask : Ask) (n m s t w : ℕ) → laterRefusal ask n m s t w ≡ none → (n ≤ s) × (n ≤ t) × (workLength n m ≤ w)
 later-long ask n m s t w e =
     let (b, i) = cond-none _ (plain 9) _ refl .0 e in
-    let (c, d) = or-fails (ltb s n || ltb t n) (ltb w (2 * m + 6 * n + 2)) .0 b in
+    let (c, d) = or-fails (ltb s n || ltb t n) (ltb w (workLength n m)) .0 b in
     let (p, q) = or-fails (ltb s n) (ltb t n) .0 c in
     (ltb-false _ _ p, ltb-false _ _ q, ltb-false _ _ d)
 
@@ -59,10 +55,10 @@ unfolding entryRefusal findingRefusal
 finding-entry f s t w = refl
 
 -- groups as long as the work table are not short where that is not,
-no-groups : (n m w : ℕ) → (ltb w n || ltb w n || ltb w (2 * m + 6 * n + 2)) ≡ ltb w (2 * m + 6 * n + 2)
+no-groups : (n m w : ℕ) → (ltb w n || ltb w n || ltb w (workLength n m)) ≡ ltb w (workLength n m)
 no-groups n m w =
     elim (decLt w n) [
-      | yes l ↦ rw (lt-ltb w n l, lt-ltb w (2 * m + 6 * n + 2) (omega arith))
+      | yes l ↦ rw (lt-ltb w n l, lt-ltb w (workLength n m) (omega arith))
       | no l ↦ rw (le-ltb w n (omega arith))
     ]
 
@@ -91,23 +87,17 @@ module _ (f : List ℕ) (ask : Ask) (s t : ℕ) (w w′ : List ℕ) {a : Entry} 
     | accepted v e j d ↦ let x : v .0 ≡ n = cc in let y : v .1 ≡ m = cc in (e, rw (x, y) at d)
   ]
 
--- the table holds the network of the file
-pub file-tabled : {f : List ℕ} {n m : ℕ} {w : List ℕ} → Sound f → Places (graphOf f) w → n ≡ graphOf f .order → m ≡ graphOf f .size → Tabled (graphOf f) n m w
-file-tabled s p i j = record { closed = s .closed; indexed = rw j (places-indexed (s .closed) (λ e l. refl) p); order = sym i }
-
--- and its numbers are small
-pub file-small : {f : List ℕ} {n m : ℕ} → Sound f → n ≡ graphOf f .order → m ≡ graphOf f .size → Small n m
-file-small s i j = record { order = omega (arith, i, s .order-most); size = omega (arith, j, s .size-most) }
-
 module _ {f : List ℕ} {s t : ℕ} {w w₁ : List ℕ} {n m : ℕ} (i : Entered f s t w w₁ n m) where
   -- the rows of the table can be walked
-  pub entered-rows : Rows n m w₁
-  entered-rows = rw (i .tabled .order) at (i .tabled .indexed .rows)
+  pub entered-rows : Small n m × Rows n m w₁
+  entered-rows =
+      let h = i .accepted .sound .header in
+      (record { order = omega (arith, i .order); size = omega (arith, i .size) }, rw (i .tabled .order) at (i .tabled .indexed .rows))
 
   -- what a walk leaves past the entries that are needed is what was there at first
   pub entered-kept : {w₂ : List ℕ} → Kept n m w₁ w₂ → WorkKept f w w₂
   entered-kept {w₂} k =
-      let c : 2 * m + 6 * n + 2 ≡ workLength (graphOf f) = rw (i .tabled .order, i .size) in
+      let c : workLength n m ≡ workLength (graphOf f .order) (graphOf f .size) = rw (i .order, i .size) in
       (k .same-length ∙ i .work .0, subst (λ c. drop c w₂ ≡ drop c w₁) c (k .past) ∙ i .work .1)
 
   -- so groups of n bytes that it writes and counts are those of the file
@@ -116,7 +106,7 @@ module _ {f : List ℕ} {s t : ℕ} {w w₁ : List ℕ} {n m : ℕ} (i : Entered
   entered-groups {a = a} {a′} {b} {b′} k p q e =
       record {
         counted = e;
-        sources = subst (λ n. GroupIn n a a′) (sym (i .tabled .order)) p;
-        targets = subst (λ n. GroupIn n b b′) (sym (i .tabled .order)) q;
+        sources = subst (λ n. GroupIn n a a′) (i .order) p;
+        targets = subst (λ n. GroupIn n b b′) (i .order) q;
         work = entered-kept k;
       }

@@ -6,18 +6,19 @@ use lib.ListN.{length, drop}
 use Rattle.graph.specs.Core.{Core, Level, LevelAcross, EqualLevel}
 use Rattle.network.specs.declared.Refusal.{Refusal}
 use Rattle.network.specs.declared.Totals.{Totals}
-use Rattle.network.specs.File.{graphOf, groupOf}
+use Rattle.network.specs.File.{graphOf}
+use Rattle.network.specs.Groups.{groupOf, GroupIn, totals}
 use Rattle.network.specs.Refusals.{workLength, coreRefusal, levelRefusal, equalLevelRefusal}
-use Rattle.network.specs.Tables.{GroupIn}
-use Rattle.network.specs.Counts.{totals}
 use Rattle.network.specs.Calls.{Call}
-use Rattle.cores.specs.declared.CoreAnswer.{CoreAnswer}
-use Rattle.cores.specs.declared.CoreAnswer.the-variants.{Done, Refused}
+use Rattle.network.specs.declared.TotalsAnswer.{TotalsAnswer}
+use Rattle.network.specs.declared.TotalsAnswer.the-variants.{Counted, Refused}
 use Rattle.cores.specs.declared.LevelAnswer as answer
 
 -- what lies past the entries that a work table needs is unchanged
 abbrev pub WorkKept : List ℕ → List ℕ → List ℕ → Type 0
-WorkKept f w w′ = (length w′ ≡ length w) × (drop (workLength (graphOf f)) w′ ≡ drop (workLength (graphOf f)) w)
+WorkKept f w w′ =
+    let k = workLength (graphOf f .order) (graphOf f .size) in
+    (length w′ ≡ length w) × (drop k w′ ≡ drop k w)
 
 -- two groups stand in the first n bytes of their tables, and E, |S| and |T| are theirs
 pub record GroupsTold (f s s′ t t′ w w′ : List ℕ) (c : Totals) : Type 0 where
@@ -27,9 +28,9 @@ pub record GroupsTold (f s s′ t t′ w w′ : List ℕ) (c : Totals) : Type 0 
   pub work : WorkKept f w w′
 
 -- the core: the groups of the [x,y]-core
-abbrev pub CoreCall : (f : List ℕ) (x y : ℕ) (s s′ t t′ w w′ : List ℕ) → CoreAnswer → Type 0
+abbrev pub CoreCall : (f : List ℕ) (x y : ℕ) (s s′ t t′ w w′ : List ℕ) → TotalsAnswer → Type 0
 CoreCall f x y s s′ t t′ w w′ =
-    Call (coreRefusal f (length s) (length t) (length w)) Refused Done (s ∷ t ∷ w ∷ []) (s′ ∷ t′ ∷ w′ ∷ [])
+    Call (coreRefusal f (length s) (length t) (length w)) Refused Counted (s ∷ t ∷ w ∷ []) (s′ ∷ t′ ∷ w′ ∷ [])
     (λ c. Core (graphOf f) x y (groupOf s′) (groupOf t′) × GroupsTold f s s′ t t′ w w′ c)
 
 -- a level of some kind

@@ -1,5 +1,5 @@
 -- The one way into a call on cores: what it refuses, and what it leaves for the call.
-use Prim.Native.Nat.{ℕ, _+_, _*_, _≤_}
+use Prim.Native.Nat.{ℕ, _≤_}
 use mathlib.Core.Bool.{cond, _||_}
 use mathlib.Core.List.{List, [], _∷_}
 use mathlib.Core.Path.{_≡_}
@@ -7,9 +7,10 @@ use lib.Dec.{eqb, ltb}
 use lib.ListN.{length}
 use Rattle.network.specs.declared.Refusal.{Refusal}
 use Rattle.network.specs.File.{graphOf, none, plain, fileRefusal}
-use Rattle.network.specs.Refusals.{orElse}
+use Rattle.network.specs.Refusals.{orElse, workLength}
+use Rattle.network.specs.Accepted.{Accepted}
 use Rattle.network.specs.Calls.{Call}
-use Rattle.peeling.specs.Peeling.{Small, Tabled}
+use Rattle.peeling.specs.Peeling.{Tabled}
 use Rattle.cores.specs.declared.Ask.{Ask}
 use Rattle.cores.specs.declared.Ask.the-variants.{Nothing, NotZero, SomeLink}
 use Rattle.cores.specs.declared.Entry.{Entry}
@@ -24,17 +25,18 @@ askRefusal SomeLink m = cond (eqb m 0) (plain 13) none
 
 -- what comes after the file's own numbers, for n members and m links and the lengths of two groups and of the work table
 abbrev pub laterRefusal : Ask → ℕ → ℕ → ℕ → ℕ → ℕ → Refusal
-laterRefusal ask n m s t w = cond (ltb s n || ltb t n || ltb w (2 * m + 6 * n + 2)) (plain 9) (askRefusal ask m)
+laterRefusal ask n m s t w = cond (ltb s n || ltb t n || ltb w (workLength n m)) (plain 9) (askRefusal ask m)
 
 -- the refusal at the way in
 unfoldable pub entryRefusal : Ask → List ℕ → ℕ → ℕ → ℕ → Refusal
 entryRefusal ask f s t w = orElse (fileRefusal f) (laterRefusal ask (graphOf f .order) (graphOf f .size) s t w)
 
--- the work table holds the network of n members and m links, and groups of these lengths are long enough
+-- the file is accepted, the work table holds its network of n members and m links, and groups of these lengths are long enough
 pub record Entered (f : List ℕ) (s t : ℕ) (w w′ : List ℕ) (n m : ℕ) : Type 0 where
+  pub accepted : Accepted f
+  pub order : n ≡ graphOf f .order
+  pub size : m ≡ graphOf f .size
   pub tabled : Tabled (graphOf f) n m w′
-  pub size : graphOf f .size ≡ m
-  pub small : Small n m
   pub sources : n ≤ s
   pub targets : n ≤ t
   pub work : WorkKept f w w′

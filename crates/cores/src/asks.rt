@@ -1,27 +1,34 @@
 // The public calls on cores and levels.
 use crate::Ask;
-use crate::CoreAnswer;
 use crate::Entry;
 use crate::LevelAnswer;
 use crate::entries::enter;
+use climbing::Rise;
+use climbing::climb;
+use network::TotalsAnswer;
 use network::wide16;
-use peeling::Rise;
 use peeling::Scope;
-use peeling::climb;
 use peeling::core_in;
 ghost use lib.ListN.{length};
 ghost use Rattle.network.specs.File.{graphOf};
-ghost use Rattle.peeling.specs.Climbs.{LevelOf};
+ghost use Rattle.climbing.specs.Climbs.{LevelOf};
 ghost use Rattle.cores.specs.Entries.{entryRefusal};
 ghost use Rattle.cores.specs.Calls.{CoreCall, LevelBy, LevelCall, LevelAcrossCall, EqualLevelCall};
 
 // 01: the core call.
-pub fn core(file: &[u8], x: u16, y: u16, s: &mut [u8], t: &mut [u8], work: &mut [u16]) -> CoreAnswer
+pub fn core(
+    file: &[u8],
+    x: u16,
+    y: u16,
+    s: &mut [u8],
+    t: &mut [u8],
+    work: &mut [u16],
+) -> TotalsAnswer
     ensures { λ r. ⌜ CoreCall (now (file .entry)) x y (now (s .entry)) (now (s .exit)) (now (t .entry)) (now (t .exit)) (now (work .entry)) (now (work .exit)) r ⌝ }
 {
     let entry = enter(file, Ask::Nothing, s.len(), t.len(), work);
     match entry {
-        Entry::Refused(refusal) => CoreAnswer::Refused(refusal),
+        Entry::Refused(refusal) => TotalsAnswer::Refused(refusal),
         Entry::Ready { order, size } => {
             let scope = Scope {
                 order,
@@ -29,7 +36,7 @@ pub fn core(file: &[u8], x: u16, y: u16, s: &mut [u8], t: &mut [u8], work: &mut 
                 x: wide16(x),
                 y: wide16(y),
             };
-            CoreAnswer::Done(core_in(work, scope, s, t))
+            TotalsAnswer::Counted(core_in(work, scope, s, t))
         }
     }
 }

@@ -1,18 +1,20 @@
 // The one way in: the file and the lengths of the tables are checked, and the network is laid into the work table.
 use crate::Ask;
 use crate::Entry;
-use crate::places::index_places;
-use calls::refusal_with_order;
+use calls::file_refusal;
+use filling::fill_all;
 use network::Refusal;
-use network::u16_at;
+use network::order_of;
+use network::size_of;
+use network::work_length;
 ghost use Prim.Native.Nat.{_≤_};
 ghost use mathlib.Core.Path.{_≡_};
-ghost use Rattle.network.specs.File.{plain};
+ghost use Rattle.network.specs.File.{mostMembers, mostLinks, plain};
 ghost use Rattle.cores.specs.Entries.{laterRefusal, EntryCall};
 
 // The number that comes after the file's own, for n members and m links: 9, then by what is asked 12 or 13, or 0.
 fn later_number(ask: Ask, n: usize, m: usize, s: usize, t: usize, work: usize) -> u16
-    requires { ⌜ (n ≤ 2048) × (m ≤ 8192) ⌝ }
+    requires { ⌜ (n ≤ mostMembers) × (m ≤ mostLinks) ⌝ }
     ensures { λ r. ⌜ plain r ≡ laterRefusal ask n m s t work ⌝ }
 {
     if s < n {
@@ -21,7 +23,7 @@ fn later_number(ask: Ask, n: usize, m: usize, s: usize, t: usize, work: usize) -
     if t < n {
         return 9;
     }
-    if work < 2 * m + 6 * n + 2 {
+    if work < work_length(n, m) {
         return 9;
     }
     match ask {
@@ -36,17 +38,16 @@ fn later_number(ask: Ask, n: usize, m: usize, s: usize, t: usize, work: usize) -
 pub fn enter(file: &[u8], ask: Ask, s: usize, t: usize, work: &mut [u16]) -> Entry
     ensures { λ r. ⌜ EntryCall (now (file .entry)) ask s t (now (work .entry)) (now (work .exit)) r ⌝ }
 {
-    let mut by_source = [0u16; 8192];
-    let refusal = refusal_with_order(file, &mut by_source);
+    let refusal = file_refusal(file);
     if refusal.number != 0 {
         return Entry::Refused(refusal);
     }
-    let order = u16_at(file, 5);
-    let size = u16_at(file, 7);
+    let order = order_of(file);
+    let size = size_of(file);
     let number = later_number(ask, order, size, s, t, work.len());
     if number != 0 {
-        return Entry::Refused(Refusal { number, link: 0 });
+        return Entry::Refused(Refusal::plain(number));
     }
-    index_places(file, &by_source, work);
+    fill_all(file, work);
     Entry::Ready { order, size }
 }

@@ -1,16 +1,8 @@
 // Cores and levels: the calls core, level, level_across and equal_level, and the way into every call on cores.
 mod asks;
 mod entries;
-mod places;
 
 use network::Refusal;
-use network::Totals;
-
-// What the core call answers: E, |S| and |T|, or the refusal.
-pub enum CoreAnswer {
-    Done(Totals),
-    Refused(Refusal),
-}
 
 // What the three level calls answer.
 pub enum LevelAnswer {

@@ -13,22 +13,21 @@ use Rattle.graph.proofs.Density.{finding-bounds}
 use Rattle.network.specs.declared.Refusal.{Refusal}
 use Rattle.network.specs.File.{graphOf, none, plain}
 use Rattle.network.specs.Refusals.{workLength, coreRefusal, findingRefusal}
-use Rattle.network.specs.Sides.{Sound}
+use Rattle.network.specs.Accepted.{Sound}
 use Rattle.network.specs.Calls.{IsRefused}
 use Rattle.network.specs.Calls as call
 use Rattle.network.proofs.Accepted.{cond-none, file-proper, orElse-both, accepted-orElse}
 use Rattle.network.proofs.Answers.{refusal-some, call-kept, orElse-second}
-use Rattle.network.proofs.Headers.{accepted-sound}
 use Rattle.cores.specs.Entries.{Entered}
 use Rattle.cores.proofs.WayIn.{entered-groups}
 use Rattle.finding.specs.declared.FindingAnswer.the-variants.{Found, Refused}
 use Rattle.finding.specs.declared.Ring.{Ring}
 use Rattle.finding.specs.Findings.{FindingCall}
-use Rattle.finding.specs.Searches as searches
+use Rattle.finding.specs.Searches.{FoundIn}
 
 -- a table is too short
 abbrev short : List ℕ → ℕ → ℕ → ℕ → Bool
-short f s t w = ltb s (graphOf f .order) || ltb t (graphOf f .order) || ltb w (workLength (graphOf f))
+short f s t w = ltb s (graphOf f .order) || ltb t (graphOf f .order) || ltb w (workLength (graphOf f .order) (graphOf f .size))
 
 module _ (f : List ℕ) (s t w : ℕ) where
   -- where the core is not refused, only 13 is left
@@ -50,7 +49,7 @@ module _ (f : List ℕ) (s t w : ℕ) where
   -- so every edge of its file can be read
   pub finding-sound : findingRefusal f s t w ≡ none → Sound f
   unfolding findingRefusal
-  finding-sound e = accepted-sound (accepted-orElse f _ .0 e .0)
+  finding-sound e = accepted-orElse f _ .0 e .0 .sound
 
   -- it is refused exactly where there is no link
   refused-linkless : coreRefusal f s t w ≡ none → (findingRefusal f s t w ≢ none) ↔ (graphOf f .size ≡ 0)
@@ -78,7 +77,7 @@ finding-refused {f} {s} {t} {q = q} e n k =
 
 -- an accepted one writes the finding of the file's network
 pub finding-done : {f s s′ t t′ w w₁ w₂ : List ℕ} {n m : ℕ} {r : Ring} → findingRefusal f (length s) (length t) (length w) ≡ none → Entered f (length s) (length t) w w₁ n m
-    → searches.Found n m w₁ w₂ s s′ t t′ r → FindingCall f s s′ t t′ w w₂ (Found r)
+    → FoundIn n m w₁ w₂ s s′ t t′ r → FindingCall f s s′ t t′ w w₂ (Found r)
 finding-done {f} {s} {t = t} {w = w} {r = r} e b i =
     let found = i .finding (graphOf f) (b .tabled) (omega (arith, sum-ones (graphOf f .size), finding-links f (length s) (length t) (length w) e)) in
     record {

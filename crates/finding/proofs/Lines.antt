@@ -3,16 +3,17 @@
 use Prim.Native.Nat.{ℕ, _<_, _≤_}
 use mathlib.Core.List.{List}
 use native.Mathlib.Nat.{le-trans}
-use Rattle.graph.specs.Graph.{Graph, Closed}
+use Rattle.graph.specs.Graph.{Graph}
+use Rattle.graph.specs.Shapes.{Closed}
 use Rattle.graph.specs.Core.{Nonempty, Before}
 use Rattle.graph.proofs.Search.{before-refl, level-before, level-across-before, pruned-row, pruned-column}
 use Rattle.network.specs.declared.Side.{Side}
 use Rattle.network.specs.declared.Side.the-variants.{Source, Target}
 use Rattle.peeling.specs.Peeling.{Tabled, Kept}
-use Rattle.peeling.specs.Climbs.{Reached, LevelOf, Climbed}
-use Rattle.peeling.proofs.Levels.{climbed-level}
+use Rattle.climbing.specs.Climbs.{Reached, LevelOf, Climbed}
+use Rattle.climbing.proofs.Levels.{climbed-level}
 use Rattle.finding.specs.declared.Best.{Best}
-use Rattle.finding.specs.Searches.{riseOf, xAt, yAt, InRange, Begins, Tries}
+use Rattle.finding.specs.Searches.{riseOf, xAt, yAt, InRange, FirstBefore, Tries}
 
 -- the level comes before the rest of its row or column
 line-before : (side : Side) (fixed last : ℕ) {g : Graph} → 1 ≤ fixed → LevelOf g (riseOf side) fixed last
@@ -37,7 +38,7 @@ pair-range : (side : Side) {fixed j : ℕ} → 1 ≤ fixed → fixed < 65536 →
 pair-range Source p q i l = record { x-positive = p; y-positive = i; x-small = q; y-small = l }
 pair-range Target p q i l = record { x-positive = i; y-positive = p; x-small = l; y-small = q }
 
-module _ {n m : ℕ} {side : Side} {fixed s : ℕ} {b : Best} {w w′ : List ℕ} (i : Begins side fixed b s) where
+module _ {n m : ℕ} {side : Side} {fixed s : ℕ} {b : Best} {w w′ : List ℕ} (i : FirstBefore side fixed b s) where
   -- where the core is empty at the start of a row or column, the best is left
   pub tries-none : InRange b → Kept n m w w′ → ((g : Graph) → Tabled g n m w → ¬ Reached g (riseOf side) fixed s) → Tries n m side fixed b w w′ b
   tries-none r k none =

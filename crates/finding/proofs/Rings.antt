@@ -4,20 +4,21 @@ use mathlib.Core.List.{List}
 use mathlib.Core.Logic.{⊎-elim}
 use native.Mathlib.Nat.{eq-zero-or-pos}
 use native.Mathlib.Omega.{arith}
-use Rattle.graph.specs.Graph.{Graph, total}
+use Rattle.graph.specs.Graph.{Graph}
+use Rattle.graph.specs.Shapes.{total}
 use Rattle.graph.specs.Core.{EqualLevel}
 use Rattle.graph.proofs.Sums.{sum-some}
 use Rattle.graph.proofs.Search.{best-finding}
 use Rattle.graph.proofs.Weights.{nonempty-one}
 use Rattle.network.specs.declared.Totals.{Totals}
-use Rattle.peeling.specs.declared.Rise.the-variants.{Both}
 use Rattle.peeling.specs.Peeling.{Tabled}
-use Rattle.peeling.specs.Climbs.{Climbed}
 use Rattle.peeling.specs.Groups.{CoreIn}
-use Rattle.peeling.proofs.Levels.{climbed-level}
 use Rattle.peeling.proofs.Kept.{kept-next, tabled-kept}
+use Rattle.climbing.specs.declared.Rise.the-variants.{Both}
+use Rattle.climbing.specs.Climbs.{Climbed}
+use Rattle.climbing.proofs.Levels.{climbed-level}
 use Rattle.finding.specs.declared.Best.{Best}
-use Rattle.finding.specs.Searches.{Searched, Found}
+use Rattle.finding.specs.Searches.{Searched, FoundIn}
 
 module _ {n m k : ℕ} {w w′ : List ℕ} (c : Climbed n m Both 0 1 w w′ k) where
   -- a climb from 1 comes to a number below 65536
@@ -35,7 +36,7 @@ module _ {n m k : ℕ} {w w′ : List ℕ} (c : Climbed n m Both 0 1 w w′ k) w
   -- the core of the best that a search up to there comes to is the finding
   pub ring-found : {w″ v s s′ t t′ : List ℕ} {b : Best} {r : Totals} → Searched n m k w′ w″ b
       → CoreIn (record { order = n; size = m; x = b .x; y = b .y }) w″ v s s′ t t′ r
-      → Found n m w v s s′ t t′ (record { x = b .x; y = b .y; equal = k; totals = r })
+      → FoundIn n m w v s s′ t t′ (record { x = b .x; y = b .y; equal = k; totals = r })
   ring-found {w″ = w″} h i =
       record {
         finding =

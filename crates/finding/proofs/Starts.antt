@@ -8,7 +8,7 @@ use Rattle.graph.specs.Core.{Before}
 use Rattle.network.specs.declared.Side.{Side}
 use Rattle.network.specs.declared.Side.the-variants.{Source, Target}
 use Rattle.finding.specs.declared.Best.{Best}
-use Rattle.finding.specs.Searches.{xAt, yAt, InRange, Begins}
+use Rattle.finding.specs.Searches.{xAt, yAt, InRange, FirstBefore}
 
 -- the product of the best is not 0 and is below 65536 times 65536
 pub product-range : {b : Best} → InRange b → (1 ≤ b .x * b .y) × (b .x * b .y < 4294967296)
@@ -36,8 +36,8 @@ quotient-high p fixed l = div-lt-iff-lt-mul {k = fixed} l .0 (lt-suc-self _)
 
 module _ (side : Side) (fixed q : ℕ) (b : Best) (f : 1 ≤ fixed) where
   -- where the product of the best lies between those at q and the next, a row or column begins at the next
-  pub begins-past : q * fixed < b .x * b .y → b .x * b .y < suc q * fixed → Begins side fixed b (q + 1)
-  begins-past l h =
+  pub first-past : q * fixed < b .x * b .y → b .x * b .y < suc q * fixed → FirstBefore side fixed b (q + 1)
+  first-past l h =
       record {
         positive = omega arith;
         low = λ j i. let k : j ≤ q = omega arith in before-less side fixed j b (omega (arith, mul-le-mul-left fixed k));
@@ -45,8 +45,8 @@ module _ (side : Side) (fixed q : ℕ) (b : Best) (f : 1 ≤ fixed) where
       }
 
   -- where it is that at q, at which x is smaller, it begins at q
-  pub begins-at : q * fixed ≡ b .x * b .y → 1 ≤ b .x * b .y → xAt side fixed q < b .x → Begins side fixed b q
-  begins-at e p l =
+  pub first-at : q * fixed ≡ b .x * b .y → 1 ≤ b .x * b .y → xAt side fixed q < b .x → FirstBefore side fixed b q
+  first-at e p l =
       record {
         positive = ⊎-elim (λ z. absurd (omega (arith, zero-times z))) (λ h. h) (eq-zero-or-pos q);
         low = λ j i. before-less side fixed j b (omega (arith, mul-le-mul-left fixed i));
@@ -60,8 +60,8 @@ module _ (side : Side) (fixed q : ℕ) (b : Best) (f : 1 ≤ fixed) where
       same = let e′ = product-at side fixed q in record { product = omega arith; tie = λ t. omega arith }
 
   -- where x is not smaller there, at the next
-  pub begins-after : q * fixed ≡ b .x * b .y → b .x ≤ xAt side fixed q → Begins side fixed b (q + 1)
-  begins-after e l =
+  pub first-after : q * fixed ≡ b .x * b .y → b .x ≤ xAt side fixed q → FirstBefore side fixed b (q + 1)
+  first-after e l =
       record {
         positive = omega arith;
         low =

@@ -5,7 +5,7 @@ use mathlib.Core.Path.{_≡_, sym}
 use native.Mathlib.Omega.{arith}
 use Rattle.graph.specs.Graph.{Graph}
 use Rattle.graph.specs.Core.{Nonempty, EqualLevel, Before}
-use Rattle.graph.specs.Search as search
+use Rattle.graph.specs.Search.{BestTried}
 use Rattle.graph.proofs.Search.{best-start, best-row, best-column, factors}
 use Rattle.network.specs.declared.Side.{Side}
 use Rattle.network.specs.declared.Side.the-variants.{Source, Target}
@@ -36,7 +36,7 @@ pub record Searching (n m k : ℕ) (w w′ : List ℕ) (side : Side) (fixed : �
   pub bounded : fixed ≤ k + 1
   pub in-range : 1 ≤ k → InRange b
   pub kept : Kept n m w w′
-  pub best : (g : Graph) → Tabled g n m w → EqualLevel g k → search.Best g (rowsTried side k (fixed - 1)) (columnsTried side (fixed - 1)) (b .x) (b .y)
+  pub best : (g : Graph) → Tabled g n m w → EqualLevel g k → BestTried g (rowsTried side k (fixed - 1)) (columnsTried side (fixed - 1)) (b .x) (b .y)
 
 -- a search begins with the equal level
 pub search-begins : {n m k : ℕ} (w : List ℕ) → k < 65536 → Searching n m k w w Source 1 (record { x = k; y = k })
@@ -65,9 +65,9 @@ search-from h s =
     }
 
 -- one number more of a side
-best-next : (side : Side) (k : ℕ) {g : Graph} {x y : ℕ} (j a b : ℕ) → search.Best g (rowsTried side k j) (columnsTried side j) x y → (1 ≤ a * b → Nonempty g a b) → Before a b x y
+best-next : (side : Side) (k : ℕ) {g : Graph} {x y : ℕ} (j a b : ℕ) → BestTried g (rowsTried side k j) (columnsTried side j) x y → (1 ≤ a * b → Nonempty g a b) → Before a b x y
     → ((i : ℕ) → 1 ≤ i → Nonempty g (xAt side (suc j) i) (yAt side (suc j) i) → Before a b (xAt side (suc j) i) (yAt side (suc j) i))
-    → search.Best g (rowsTried side k (suc j)) (columnsTried side (suc j)) a b
+    → BestTried g (rowsTried side k (suc j)) (columnsTried side (suc j)) a b
 best-next Source k j a b s r p all = best-row a b s r p all
 best-next Target k j a b s r p all = best-column a b s r p all
 
@@ -89,7 +89,7 @@ search-more {n} {m} {k} {w} {w′} {w″} {side} {fixed} {b} {r} s l t =
     next-at : fixed + 1 - 1 ≡ suc (fixed - 1)
     next-at = omega (arith, s .positive)
 
-    best : (g : Graph) → Tabled g n m w → EqualLevel g k → search.Best g (rowsTried side k (fixed + 1 - 1)) (columnsTried side (fixed + 1 - 1)) (r .x) (r .y)
+    best : (g : Graph) → Tabled g n m w → EqualLevel g k → BestTried g (rowsTried side k (fixed + 1 - 1)) (columnsTried side (fixed + 1 - 1)) (r .x) (r .y)
     best g h e =
         let h′ = tabled-kept h (s .kept) in
         let was = s .best g h e in

@@ -5,7 +5,8 @@ use mathlib.Core.Logic.{_↔_}
 use mathlib.Core.Path.{_≡_}
 use lib.ListN.{length}
 use Rattle.graph.specs.Core.{EqualLevel, Finding, Bounds}
-use Rattle.network.specs.File.{graphOf, groupOf, none}
+use Rattle.network.specs.File.{graphOf, none}
+use Rattle.network.specs.Groups.{groupOf}
 use Rattle.network.specs.Refusals.{coreRefusal, findingRefusal}
 use Rattle.network.specs.Calls.{Call, IsRefused}
 use Rattle.cores.specs.Calls.{GroupsTold}

@@ -2,18 +2,17 @@
 use Prim.Native.Nat.{ℕ, _<_, _≤_}
 use mathlib.Core.List.{List}
 use mathlib.Core.Path.{_≡_}
-use Rattle.graph.specs.Graph.{Graph, total}
+use Rattle.graph.specs.Graph.{Graph}
+use Rattle.graph.specs.Shapes.{total}
 use Rattle.graph.specs.Core.{Nonempty, EqualLevel, Before, Finding}
-use Rattle.graph.specs.Search as search
+use Rattle.graph.specs.Search.{BestTried}
 use Rattle.network.specs.declared.Side.{Side}
 use Rattle.network.specs.declared.Side.the-variants.{Source, Target}
-use Rattle.network.specs.File.{groupOf}
-use Rattle.network.specs.Tables.{GroupIn}
-use Rattle.network.specs.Counts.{totals}
-use Rattle.peeling.specs.declared.Rise.{Rise}
-use Rattle.peeling.specs.declared.Rise.the-variants.{Targets, Sources}
+use Rattle.network.specs.Groups.{groupOf, GroupIn, totals}
 use Rattle.peeling.specs.Peeling.{Tabled, Kept}
-use Rattle.peeling.specs.Climbs.{ofSources, ofTargets}
+use Rattle.climbing.specs.declared.Rise.{Rise}
+use Rattle.climbing.specs.declared.Rise.the-variants.{Targets, Sources}
+use Rattle.climbing.specs.Climbs.{ofSources, ofTargets}
 use Rattle.finding.specs.declared.Best.{Best}
 use Rattle.finding.specs.declared.Ring.{Ring}
 
@@ -37,8 +36,8 @@ pub record InRange (b : Best) : Type 0 where
   pub x-small : b .x < 65536
   pub y-small : b .y < 65536
 
--- from s on a row or column comes before the best, and below s the best comes before it
-pub record Begins (side : Side) (fixed : ℕ) (b : Best) (s : ℕ) : Type 0 where
+-- s is the first place of a row or column that comes before the best: from s on it does, and below s the best comes before it
+pub record FirstBefore (side : Side) (fixed : ℕ) (b : Best) (s : ℕ) : Type 0 where
   pub positive : 1 ≤ s
   pub low : (j : ℕ) → j < s → Before (b .x) (b .y) (xAt side fixed j) (yAt side fixed j)
   pub high : (j : ℕ) → s ≤ j → Before (xAt side fixed j) (yAt side fixed j) (b .x) (b .y)
@@ -56,10 +55,10 @@ pub record Tries (n m : ℕ) (side : Side) (fixed : ℕ) (b : Best) (w w′ : Li
 pub record Searched (n m k : ℕ) (w w′ : List ℕ) (r : Best) : Type 0 where
   pub in-range : 1 ≤ k → InRange r
   pub kept : Kept n m w w′
-  pub best : (g : Graph) → Tabled g n m w → EqualLevel g k → search.Best g k k (r .x) (r .y)
+  pub best : (g : Graph) → Tabled g n m w → EqualLevel g k → BestTried g k k (r .x) (r .y)
 
 -- the finding of every graph with an edge that the table holds
-pub record Found (n m : ℕ) (w w′ s s′ t t′ : List ℕ) (r : Ring) : Type 0 where
+pub record FoundIn (n m : ℕ) (w w′ s s′ t t′ : List ℕ) (r : Ring) : Type 0 where
   pub finding : (g : Graph) → Tabled g n m w → 1 ≤ total g → Finding g (r .x) (r .y) (groupOf s′) (groupOf t′)
   pub equal : (g : Graph) → Tabled g n m w → EqualLevel g (r .equal)
   pub counted : (g : Graph) → Tabled g n m w → r .totals ≡ totals g (groupOf s′) (groupOf t′)

@@ -1,18 +1,19 @@
 // The search for the best [x,y], row by row and then column by column, up to the equal level.
 use crate::Best;
 use crate::Ring;
+use climbing::Rise;
+use climbing::climb;
+use climbing::longest_row;
 use network::Side;
-use peeling::Rise;
 use peeling::Scope;
-use peeling::climb;
 use peeling::core_in;
-use peeling::longest_row;
 ghost use mathlib.Core.Path.{_≡_};
 ghost use Prim.Native.Nat.{ℕ, _+_, _*_, _<_, _≤_};
 ghost use lib.ListN.{length};
+ghost use Rattle.network.specs.File.{mostMembers};
 ghost use Rattle.peeling.specs.Peeling.{Small, Rows, startOf};
-ghost use Rattle.peeling.specs.Climbs.{NoLonger};
-ghost use Rattle.finding.specs.Searches.{riseOf, InRange, Begins, Tries, Searched, Found};
+ghost use Rattle.climbing.specs.Climbs.{NoLonger};
+ghost use Rattle.finding.specs.Searches.{riseOf, InRange, FirstBefore, Tries, Searched, FoundIn};
 
 // What rises where the need of a side is fixed.
 fn rise_of(side: Side) -> Rise
@@ -27,7 +28,7 @@ fn rise_of(side: Side) -> Rise
 // The most edges of one place in the whole graph, on the side that rises where the need of the other is fixed. Past it every core of a row or
 // column is empty.
 fn longest_of(work: &[u16], order: usize, side: Side) -> usize
-    requires { ⌜ (order ≤ 2048) × (2 * order < length (now work)) ⌝ }
+    requires { ⌜ (order ≤ mostMembers) × (2 * order < length (now work)) ⌝ }
     requires { ⌜ ((p : ℕ) → p < 2 * order → startOf (now work) p ≤ startOf (now work) (p + 1)) ⌝ }
     ensures { λ r. ⌜ NoLonger order (riseOf side) (now (work .entry)) r ⌝ }
 {
@@ -41,7 +42,7 @@ fn longest_of(work: &[u16], order: usize, side: Side) -> usize
 fn start_of(side: Side, fixed: usize, best: Best) -> usize
     requires { ⌜ (1 ≤ fixed) × (fixed < 65536) ⌝ }
     requires { ⌜ InRange best ⌝ }
-    ensures { λ r. ⌜ Begins side fixed best r ⌝ }
+    ensures { λ r. ⌜ FirstBefore side fixed best r ⌝ }
 {
     let product = best.x * best.y;
     let quotient = product / fixed;
@@ -119,7 +120,7 @@ pub fn find_in(work: &mut [u16], order: usize, size: usize, s: &mut [u8], t: &mu
     requires { ⌜ Small order size ⌝ }
     requires { ⌜ Rows order size (now work) ⌝ }
     requires { ⌜ (order ≤ length (now s)) × (order ≤ length (now t)) ⌝ }
-    ensures { λ r. ⌜ Found order size (now (work .entry)) (now (work .exit)) (now (s .entry)) (now (s .exit)) (now (t .entry)) (now (t .exit)) r ⌝ }
+    ensures { λ r. ⌜ FoundIn order size (now (work .entry)) (now (work .exit)) (now (s .entry)) (now (s .exit)) (now (t .entry)) (now (t .exit)) r ⌝ }
 {
     let equal = climb(work, order, size, Rise::Both, 0, 1);
     let best = search(work, order, size, equal);

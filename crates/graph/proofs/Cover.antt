@@ -10,8 +10,9 @@ use native.Mathlib.Omega.{arith}
 use borrow.Author.Tests.{lt-ltb, le-ltb, ne-eqb, eqb-true, eq-eqb}
 use lib.Dec.{eqb}
 use Rattle.graph.specs.Range.{sum, if}
-use Rattle.graph.specs.Graph.{Graph, Closed, Group, edges, outDegree, inDegree}
-use Rattle.graph.specs.Core.{Same, Dense, Covers, Core}
+use Rattle.graph.specs.Graph.{Graph, Group, edges, outDegree, inDegree}
+use Rattle.graph.specs.Shapes.{Closed, Same}
+use Rattle.graph.specs.Core.{Dense, Covers, Core}
 use Rattle.graph.specs.Linkage.{degree, Settled, Surrounds}
 use Rattle.graph.specs.Cover.{cover, joined, need, targets, places}
 use Rattle.graph.proofs.Tests.{test-ext}

@@ -7,8 +7,9 @@ use native.Mathlib.Omega.{arith}
 use borrow.Author.Tests.{ne-eqb, eqb-true}
 use lib.Dec.{eqb}
 use Rattle.graph.specs.Range.{sum, if}
-use Rattle.graph.specs.Graph.{Graph, Closed, reverse, Group, card, edges, outDegree, inDegree}
-use Rattle.graph.specs.Core.{Inside, Same}
+use Rattle.graph.specs.Graph.{Graph, reverse, Group, card, edges, outDegree, inDegree}
+use Rattle.graph.specs.Shapes.{Closed, Same}
+use Rattle.graph.specs.Core.{Inside}
 use Rattle.graph.proofs.Tests.{and-left, and-right, and-both, if-comm, if-mono, if-some, if-turn, if-split, eqb-sym}
 use Rattle.graph.proofs.Sums.{sum-ext, sum-mono, sum-add, sum-times, if-sum, sum-swap, sum-pick, sum-some}
 
@@ -74,13 +75,9 @@ sum-without f S n u l h =
 pub card-without : (g : Graph) (S : Group) (u : ℕ) → u < g .order → S u ≡ true → card g S ≡ card g (without S u) + 1
 card-without g S u l h = sum-without (λ w. 1) S (g .order) u l h
 
--- the links out of it lose the vertex's degree,
+-- and the links out of it lose the vertex's degree
 pub edges-without : {g : Graph} → Closed g → (S T : Group) (u : ℕ) → u < g .order → S u ≡ true → edges g S T ≡ edges g (without S u) T + outDegree g T u
 edges-without {g} k S T u l h = edges-out k S T ∙ sum-without (outDegree g T) S (g .order) u l h ∙ rw (edges-out k (without S u) T)
-
--- and so on the other side
-pub edges-without-in : {g : Graph} → Closed g → (S T : Group) (v : ℕ) → v < g .order → T v ≡ true → edges g S T ≡ edges g S (without T v) + inDegree g S v
-edges-without-in {g} k S T v l h = rw (← edges-reverse g S T, ← edges-reverse g S (without T v), ← edges-reverse g S (only v)) (edges-without (closed-reverse k) T S v l h)
 
 -- a smaller group that lacks the vertex is in what is left
 pub inside-without : (g : Graph) {R S : Group} (u : ℕ) → Inside g R S → R u ≢ true → Inside g R (without S u)

@@ -5,10 +5,10 @@ use mathlib.Core.Logic.{⊎-elim}
 use mathlib.Core.Path.{_≡_}
 use native.Mathlib.Nat.{lt-suc-self, mul-le-mul, mul-le-mul-left, mul-le-mul-right, le-of-mul-le-mul-right, div-lt-iff-lt-mul, eq-zero-or-pos}
 use native.Mathlib.Omega.{arith}
-use Rattle.graph.specs.Graph.{Graph, Closed, reverse, Group, card, edges, outDegree, inDegree, total}
+use Rattle.graph.specs.Graph.{Graph, reverse, Group, card, edges, outDegree, inDegree}
+use Rattle.graph.specs.Shapes.{Closed}
 use Rattle.graph.specs.Core.{Nonempty, Finding, Bounds}
 use Rattle.graph.proofs.Degrees.{closed-reverse, only, without, edges-reverse, edges-some, edges-without, card-without}
-use Rattle.graph.proofs.Sums.{sum-ones}
 use Rattle.graph.proofs.Peel.{Enough, peel}
 use Rattle.graph.proofs.Exists.{dense-edges, dense-edges-in, nonempty, nonempty-reverse}
 
@@ -133,10 +133,3 @@ finding-bounds {g} k {x} {y} {S} {T} f =
 
     below : x * y * (card g S * card g T) ≤ edges g S T * edges g S T
     below = omega (arith, mul-le-mul (dense-edges k (f .core .dense)) (dense-edges-in k (f .core .dense)))
-
--- so every link of the network, between everyone and everyone, is within the bound
-pub bounds-whole : {g : Graph} {x y : ℕ} {S T : Group} → 1 ≤ g .order → Bounds g x y S T → total g * total g ≤ 4 * (x * y) * (g .order * g .order)
-bounds-whole {g} p b =
-    let everyone : card g (λ u. true) ≡ g .order = sum-ones (g .order) in
-    let some : 1 ≤ card g (λ u. true) = omega arith in
-    rw (everyone) at (b .above (λ u. true) (λ v. true) some some)

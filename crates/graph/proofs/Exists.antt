@@ -5,8 +5,9 @@ use mathlib.Core.Logic.{_↔_}
 use mathlib.Core.Path.{refl, sym, _∙_}
 use native.Mathlib.Nat.{le-trans, one-le-mul}
 use native.Mathlib.Omega.{arith}
-use Rattle.graph.specs.Graph.{Graph, Closed, reverse, Group, card, edges, outDegree, inDegree}
-use Rattle.graph.specs.Core.{Inside, Same, Dense, Covers, Core, Nonempty}
+use Rattle.graph.specs.Graph.{Graph, reverse, Group, card, edges, outDegree, inDegree}
+use Rattle.graph.specs.Shapes.{Closed, Same}
+use Rattle.graph.specs.Core.{Inside, Dense, Covers, Core, Nonempty}
 use Rattle.graph.proofs.Tests.{test-ext}
 use Rattle.graph.proofs.Degrees.{closed-reverse, only, without, edges-reverse, edges-mono, edges-same, edges-out, edges-some, card-mono, inside-without, times-card}
 use Rattle.graph.proofs.Peel.{peel}
@@ -104,11 +105,7 @@ nonempty {g} k {x} {y} d p q =
     let (i, j) = c .largest _ _ d in
     record { S = S; T = T; core = c; some = le-trans p (card-mono g i); other = le-trans q (card-mono g j) }
 
--- so the core is not empty exactly when there is a dense pair with somebody in S
-pub nonempty-iff : {g : Graph} → Closed g → (x y : ℕ) → 1 ≤ x → Nonempty g x y ↔ ((S : Group) × (T : Group) × Dense g x y S T × (1 ≤ card g S))
-nonempty-iff k x y p = (λ n. (n .S, n .T, n .core .dense, n .some), λ (S, T, d, q). nonempty k d q (dense-other k p d q))
-
--- then those for smaller x and y are not empty
+-- and those for smaller x and y
 pub nonempty-nested : {g : Graph} → Closed g → {x y x′ y′ : ℕ} → x′ ≤ x → y′ ≤ y → Nonempty g x y → Nonempty g x′ y′
 nonempty-nested k p q n = nonempty k (dense-nested p q (n .core .dense)) (n .some) (n .other)
 

@@ -3,11 +3,12 @@ use Prim.Native.Nat.{ℕ, zero, suc, _*_, _≤_}
 use mathlib.Core.Logic.{⊎-elim}
 use mathlib.Core.Path.{_≡_, sym, ap, _∙_}
 use native.Mathlib.Decide.{decLe}
-use native.Mathlib.Nat.{le-antisymm, eq-or-lt-of-le, eq-zero-or-pos, eq-of-mul-eq-mul-left}
+use native.Mathlib.Nat.{le-antisymm, eq-or-lt-of-le, eq-of-mul-eq-mul-left}
 use native.Mathlib.Omega.{arith}
-use Rattle.graph.specs.Graph.{Graph, Closed, Group, card, total}
-use Rattle.graph.specs.Core.{Same, Core, Nonempty, Greatest, Level, LevelAcross, EqualLevel, Finding}
-use Rattle.graph.specs.Search.{Best}
+use Rattle.graph.specs.Graph.{Graph, Group, card}
+use Rattle.graph.specs.Shapes.{Closed, total, Same}
+use Rattle.graph.specs.Core.{Core, Nonempty, Greatest, Level, LevelAcross, EqualLevel, Finding}
+use Rattle.graph.specs.Search.{BestTried}
 use Rattle.graph.proofs.Sums.{sum-some}
 use Rattle.graph.proofs.Exists.{core-exists, core-some, core-unique}
 use Rattle.graph.proofs.Search.{before-refl, before-total, before-trans, best-start, best-row, best-column, best-finding, level-before, level-across-before, factors}
@@ -31,13 +32,6 @@ greatest-exists {P} d (suc n) h = go (d (suc n)) (greatest-exists d n)
     go (yes p) rec = (suc n, record { holds = λ q. p; above = λ j i q. h j q })
     go (no p) rec = rec (λ j q. ⊎-elim (λ e. absurd (p (rw e at q))) (λ l. omega arith) (eq-or-lt-of-le (h j q)))
 
--- and no other
-pub greatest-unique : {P : ℕ → Type 0} {k k′ : ℕ} → Greatest P k → Greatest P k′ → k ≡ k′
-greatest-unique {P} {k} {k′} a b = le-antisymm (below a b) (below b a)
-  where
-    below : {k k′ : ℕ} → Greatest P k → Greatest P k′ → k ≤ k′
-    below {k} a b = ⊎-elim (λ e. rw e (omega arith)) (λ p. b .above k p (a .holds p)) (eq-zero-or-pos k)
-
 -- so there is the level of each x,
 pub level-exists : {g : Graph} → Closed g → (x : ℕ) → (y : ℕ) × Level g x y
 level-exists {g} k x = greatest-exists (λ y. nonempty? k x y) (total g) (λ y n. nonempty-y k n)
@@ -51,21 +45,21 @@ pub equal-level-exists : {g : Graph} → Closed g → (j : ℕ) × EqualLevel g 
 equal-level-exists {g} k = greatest-exists (λ j. nonempty? k j j) (total g) (λ j n. nonempty-x k n)
 
 -- a search can go on to the next x
-row : {g : Graph} → Closed g → {m n x y : ℕ} → Best g m n x y → (x : ℕ) × (y : ℕ) × Best g (suc m) n x y
+row : {g : Graph} → Closed g → {m n x y : ℕ} → BestTried g m n x y → (x : ℕ) × (y : ℕ) × BestTried g (suc m) n x y
 row {g} k {m} {n} {x} {y} s =
     let (j, l) = level-exists k (suc m) in
     ⊎-elim (λ b. (x, y, best-row x y s (s .reached) (before-refl x y) (λ y′ p e. before-trans b (level-before l y′ p e))))
     (λ b. (suc m, j, best-row (suc m) j s (λ p. l .holds (factors (suc m) j p .1)) b (level-before l))) (before-total x y (suc m) j)
 
 -- the same for the next y
-column : {g : Graph} → Closed g → {m n x y : ℕ} → Best g m n x y → (x : ℕ) × (y : ℕ) × Best g m (suc n) x y
+column : {g : Graph} → Closed g → {m n x y : ℕ} → BestTried g m n x y → (x : ℕ) × (y : ℕ) × BestTried g m (suc n) x y
 column {g} k {m} {n} {x} {y} s =
     let (i, l) = level-across-exists k (suc n) in
     ⊎-elim (λ b. (x, y, best-column x y s (s .reached) (before-refl x y) (λ x′ p e. before-trans b (level-across-before (omega arith) l x′ p e))))
     (λ b. (i, suc n, best-column i (suc n) s (λ p. l .holds (factors i (suc n) p .0)) b (level-across-before (omega arith) l))) (before-total x y i (suc n))
 
 -- so it can take any number of steps
-best-exists : {g : Graph} → Closed g → (j : ℕ) → (x : ℕ) × (y : ℕ) × Best g j j x y
+best-exists : {g : Graph} → Closed g → (j : ℕ) → (x : ℕ) × (y : ℕ) × BestTried g j j x y
 best-exists k zero = (0, 0, best-start (λ p. absurd (omega arith)))
 best-exists k (suc j) = column k (row k (best-exists k j .2) .2)
 

@@ -13,8 +13,7 @@ pub mod Weights
 pub mod Found
 pub mod Linkage
 pub mod Links
-pub mod Ascents
+pub mod Monotone
 pub mod Cover
-pub mod Spans
-pub mod Joined
-pub mod Parts
+pub mod Starts
+pub mod Ascending

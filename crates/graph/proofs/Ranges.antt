@@ -11,7 +11,7 @@ use lib.Dec.{eqb}
 use lib.ListN.{length, getD, set, drop, length-append, List·getD-append}
 use lib.Seq.{ext-getD, drop-cons, set-at, getD-at, append-snoc, getD-append-add}
 use Rattle.graph.specs.Range.{sum, if, first, flat, table}
-use Rattle.graph.specs.Order.{Permutes}
+use Rattle.graph.specs.Sorting.{Permutes}
 use Rattle.graph.proofs.Tests.{test-ext, if-some}
 use Rattle.graph.proofs.Sums.{sum-ext, sum-mono, sum-ones, sum-swap, below-suc, sum-some, sum-pick}
 

@@ -4,9 +4,10 @@ use mathlib.Core.Logic.{_⊎_, inl, inr, ⊎-elim}
 use native.Mathlib.Decide.{decLe}
 use native.Mathlib.Nat.{le-refl, le-trans, one-le-mul, mul-le-mul-left, mul-le-mul-right, le-of-mul-le-mul-right, eq-or-lt-of-le}
 use native.Mathlib.Omega.{arith}
-use Rattle.graph.specs.Graph.{Graph, Closed, Group}
+use Rattle.graph.specs.Graph.{Graph, Group}
+use Rattle.graph.specs.Shapes.{Closed}
 use Rattle.graph.specs.Core.{Core, Nonempty, Greatest, Level, LevelAcross, EqualLevel, Before, Finding}
-use Rattle.graph.specs.Search.{Tried, Best}
+use Rattle.graph.specs.Search.{Tried, BestTried}
 use Rattle.graph.proofs.Exists.{nonempty-nested, core-some}
 
 -- what holds at k, not at the next number, and downwards from wherever it holds, has k for its greatest
@@ -53,8 +54,8 @@ before-total x y x′ y′ = go (decLe (x * y) (x′ * y′)) (decLe (x′ * y�
     go (yes p) (yes q) (no r) = inr (omega arith)
 
 -- what is kept at a step of a search comes before what it had and before each non-empty core that the step adds
-best-more : {g : Graph} {m n m′ n′ x y : ℕ} (a b : ℕ) → Best g m n x y → (1 ≤ a * b → Nonempty g a b) → Before a b x y
-    → ((x′ y′ : ℕ) → 1 ≤ x′ → 1 ≤ y′ → Tried m′ n′ x′ y′ → Nonempty g x′ y′ → Tried m n x′ y′ ⊎ Before a b x′ y′) → Best g m′ n′ a b
+best-more : {g : Graph} {m n m′ n′ x y : ℕ} (a b : ℕ) → BestTried g m n x y → (1 ≤ a * b → Nonempty g a b) → Before a b x y
+    → ((x′ y′ : ℕ) → 1 ≤ x′ → 1 ≤ y′ → Tried m′ n′ x′ y′ → Nonempty g x′ y′ → Tried m n x′ y′ ⊎ Before a b x′ y′) → BestTried g m′ n′ a b
 best-more a b s r p new =
     record {
       reached = r;
@@ -62,12 +63,12 @@ best-more a b s r p new =
     }
 
 -- a search begins with any non-empty core, and nothing tried
-pub best-start : {g : Graph} {x y : ℕ} → (1 ≤ x * y → Nonempty g x y) → Best g 0 0 x y
+pub best-start : {g : Graph} {x y : ℕ} → (1 ≤ x * y → Nonempty g x y) → BestTried g 0 0 x y
 best-start r = record { reached = r; before = λ x y p q h n. absurd (⊎-elim (λ i. omega arith) (λ i. omega arith) h) }
 
 -- it goes on to the next x: what it keeps comes before each non-empty core of that x
-pub best-row : {g : Graph} {m n x y : ℕ} (a b : ℕ) → Best g m n x y → (1 ≤ a * b → Nonempty g a b) → Before a b x y
-    → ((y′ : ℕ) → 1 ≤ y′ → Nonempty g (suc m) y′ → Before a b (suc m) y′) → Best g (suc m) n a b
+pub best-row : {g : Graph} {m n x y : ℕ} (a b : ℕ) → BestTried g m n x y → (1 ≤ a * b → Nonempty g a b) → Before a b x y
+    → ((y′ : ℕ) → 1 ≤ y′ → Nonempty g (suc m) y′ → Before a b (suc m) y′) → BestTried g (suc m) n a b
 best-row {g} {m} {n} a b s r p row = best-more a b s r p new
   where
     new : (x′ y′ : ℕ) → 1 ≤ x′ → 1 ≤ y′ → Tried (suc m) n x′ y′ → Nonempty g x′ y′ → Tried m n x′ y′ ⊎ Before a b x′ y′
@@ -75,8 +76,8 @@ best-row {g} {m} {n} a b s r p row = best-more a b s r p new
     new x′ y′ i j (inl h) e = ⊎-elim (λ t. inr (rw t (row y′ j (rw t at e)))) (λ t. inl (inl (omega arith))) (eq-or-lt-of-le h)
 
 -- or to the next y
-pub best-column : {g : Graph} {m n x y : ℕ} (a b : ℕ) → Best g m n x y → (1 ≤ a * b → Nonempty g a b) → Before a b x y
-    → ((x′ : ℕ) → 1 ≤ x′ → Nonempty g x′ (suc n) → Before a b x′ (suc n)) → Best g m (suc n) a b
+pub best-column : {g : Graph} {m n x y : ℕ} (a b : ℕ) → BestTried g m n x y → (1 ≤ a * b → Nonempty g a b) → Before a b x y
+    → ((x′ : ℕ) → 1 ≤ x′ → Nonempty g x′ (suc n) → Before a b x′ (suc n)) → BestTried g m (suc n) a b
 best-column {g} {m} {n} a b s r p column = best-more a b s r p new
   where
     new : (x′ y′ : ℕ) → 1 ≤ x′ → 1 ≤ y′ → Tried m (suc n) x′ y′ → Nonempty g x′ y′ → Tried m n x′ y′ ⊎ Before a b x′ y′
@@ -109,7 +110,7 @@ factors (suc x) zero p = absurd (omega arith)
 factors (suc x) (suc y) p = omega arith
 
 -- once each x and each y up to the equal level is tried, the best is the finding
-pub best-finding : {g : Graph} → Closed g → {j x y : ℕ} {S T : Group} → 1 ≤ j → EqualLevel g j → Best g j j x y → Core g x y S T → Finding g x y S T
+pub best-finding : {g : Graph} → Closed g → {j x y : ℕ} {S T : Group} → 1 ≤ j → EqualLevel g j → BestTried g j j x y → Core g x y S T → Finding g x y S T
 best-finding {g} k {j} {x} {y} p l s c =
     let q : 1 ≤ x * y = le-trans (one-le-mul p p) (s .before j j p p (inl (le-refl j)) (l .holds p) .product) in
     let (h, i) = core-some (s .reached q) c in

@@ -1,6 +1,5 @@
 -- A list after a store: the entry stored, and every other as it was.
 use Prim.Native.Nat.{ℕ, _+_, _<_}
-use mathlib.Core.Bool.{cond}
 use mathlib.Core.List.{List}
 use mathlib.Core.Path.{_≡_, sym, ap, _∙_}
 use native.Mathlib.Decide.{ℕ-discrete, decLt}
@@ -12,14 +11,6 @@ use lib.ListN.{length, getD, set, replicate, getD-replicate, length-replicate, L
 use lib.Seq.{getD-set-same, getD-set-other}
 use Rattle.graph.specs.Range.{sum, if, table}
 use Rattle.graph.proofs.Ranges.{table-unique}
-
--- an entry of a list after a store
-pub getD-set : (l : List ℕ) (i v k : ℕ) → i < length l → getD (set l i v) k 0 ≡ cond (eqb i k) v (getD l k 0)
-getD-set l i v k h =
-    elim (ℕ-discrete i k) [
-      | yes e ↦ rw (eq-eqb i k e, ← e) (getD-set-same l i v 0 h)
-      | no e ↦ rw (ne-eqb i k e) (getD-set-other l i k v 0 (λ q. e (sym q)))
-    ]
 
 -- where the store counts one up
 pub getD-count : (l : List ℕ) (i k : ℕ) → i < length l → getD (set l i (getD l i 0 + 1)) k 0 ≡ getD l k 0 + if (eqb i k) 1

@@ -27,6 +27,12 @@ unfolding sum
 sum-ext zero e = refl
 sum-ext (suc n) e = omega (arith, sum-ext n (λ i l. e i (omega arith)), e n (omega arith))
 
+-- a sum from its first term on
+pub sum-first : (f : ℕ → ℕ) (n : ℕ) → sum f (suc n) ≡ f 0 + sum (λ i. f (suc i)) n
+unfolding sum
+sum-first f zero = omega arith
+sum-first f (suc n) = omega (arith, sum-first f n)
+
 -- smaller terms have a smaller sum
 pub sum-mono : {f h : ℕ → ℕ} (n : ℕ) → ((i : ℕ) → i < n → f i ≤ h i) → sum f n ≤ sum h n
 unfolding sum

@@ -1,5 +1,5 @@
 -- Laws of tests: `&&`, `if` and `eqb`.
-use Prim.Native.Nat.{ℕ, _+_, _*_, _≤_}
+use Prim.Native.Nat.{ℕ, _+_, _≤_}
 use mathlib.Core.Bool.{Bool, true, false, not, _&&_, false≢true}
 use mathlib.Core.Logic.{_≢_}
 use mathlib.Core.Path.{_≡_, refl, sym, _∙_}
@@ -46,11 +46,6 @@ if-mono {a = false} w f = omega arith
 pub if-le : (b : Bool) (w : ℕ) → if b w ≤ w
 if-le true w = le-refl w
 if-le false w = omega arith
-
--- nor more than c times a test of weight 1
-pub if-times : (b : Bool) {w c : ℕ} → w ≤ c → if b w ≤ c * if b 1
-if-times true h = omega arith
-if-times false h = omega arith
 
 -- what counts was tested for
 pub if-some : (b : Bool) (w : ℕ) → 1 ≤ if b w → (b ≡ true) × (1 ≤ w)

@@ -8,10 +8,6 @@ use Rattle.graph.specs.Graph.{Graph, Group, card, edges, outDegree, inDe
 abbrev pub Inside : Graph → Group → Group → Type 0
 Inside g S R = (u : ℕ) → u < g .order → S u ≡ true → R u ≡ true
 
--- S and R have the same vertices
-abbrev pub Same : Graph → Group → Group → Type 0
-Same g S R = (u : ℕ) → u < g .order → S u ≡ R u
-
 -- each vertex of S has at least x links into T, and each of T at least y from S
 pub record Dense (g : Graph) (x y : ℕ) (S T : Group) : Type 0 where
   pub out : (u : ℕ) → u < g .order → S u ≡ true → x ≤ outDegree g T u

@@ -14,14 +14,9 @@ pub record Graph : Type 0 where
   pub target : ℕ → ℕ
   pub weight : ℕ → ℕ
 
--- each edge joins two vertices of the graph
-pub record Closed (g : Graph) : Type 0 where
-  pub source-below : (e : ℕ) → e < g .size → g .source e < g .order
-  pub target-below : (e : ℕ) → e < g .size → g .target e < g .order
-
--- no two edges join the same two vertices in the same direction
-abbrev pub Simple : Graph → Type 0
-Simple g = (d e : ℕ) → d < g .size → e < g .size → g .source d ≡ g .source e → g .target d ≡ g .target e → d ≡ e
+-- an edge goes from u to v
+abbrev pub Linked : Graph → ℕ → ℕ → Type 0
+Linked g u v = (e : ℕ) × (e < g .size) × (g .source e ≡ u) × (g .target e ≡ v)
 
 -- every edge turned round
 abbrev pub reverse : Graph → Graph
@@ -46,7 +41,3 @@ outDegree g T u = sum (λ e. if (eqb (g .source e) u && T (g .target e)) (g .wei
 -- 01: the links of v from S
 abbrev pub inDegree : Graph → Group → ℕ → ℕ
 inDegree g S v = sum (λ e. if (S (g .source e) && eqb (g .target e) v) (g .weight e)) (g .size)
-
--- the weights of all edges together: of a network, the number of its links
-abbrev pub total : Graph → ℕ
-total g = sum (g .weight) (g .size)

@@ -1,21 +1,22 @@
 -- When a file is accepted, what that says of its network, and how the refusal of a call is taken apart.
-use Prim.Native.Nat.{ℕ, _+_, _*_, _<_, _≤_}
+use Prim.Native.Nat.{ℕ, _<_, _≤_}
 use mathlib.Core.Bool.{Bool, true, false, not, cond, _||_, false≢true, and-eq-true-iff}
 use mathlib.Core.List.{List}
 use mathlib.Core.Logic.{_↔_, Iff·rfl}
-use mathlib.Core.Path.{_≡_, refl, sym, ap}
+use mathlib.Core.Path.{_≡_, refl, sym, ap, _∙_}
 use native.Mathlib.Decide.{decLe}
 use native.Mathlib.Nat.{le-antisymm}
 use native.Mathlib.Omega.{arith}
 use borrow.Author.Tests.{ltb-false, leb-false, eqb-true, eqb-false, not-false, le-ltb, lt-leb, eq-eqb}
 use lib.Dec.{eqb, leb, ltb}
-use lib.ListN.{length, getD}
 use Rattle.graph.specs.Range.{first}
-use Rattle.graph.specs.Graph.{Graph, Closed, Simple}
+use Rattle.graph.specs.Graph.{Graph}
+use Rattle.graph.specs.Shapes.{Closed, Simple}
 use Rattle.graph.proofs.Ranges.{first-le, first-passes, first-before, first-least, first-none}
 use Rattle.network.specs.declared.Refusal.{Refusal}
-use Rattle.network.specs.File.{u16At, graphOf, marked, outside, same, repeat, none, fileRefusal}
-use Rattle.network.specs.Refusals.{orElse, isGroup}
+use Rattle.network.specs.File.{graphOf, outside, same, repeat, none, fileRefusal}
+use Rattle.network.specs.Refusals.{orElse}
+use Rattle.network.specs.Accepted.{Accepted}
 
 -- a test for less fails exactly when the other is no greater
 pub ltb-fails : (a b : ℕ) → (ltb a b ≡ false) ↔ (b ≤ a)
@@ -45,10 +46,6 @@ first-all p n = (λ h i l. first-before p n i (omega arith), first-none p n)
 -- the first that passes is not below n exactly when it is n
 first-fails : (p : ℕ → Bool) (n : ℕ) → (ltb (first p n) n ≡ false) ↔ (first p n ≡ n)
 first-fails p n = (λ h. omega (arith, ltb-false _ n h, first-le p n), λ h. le-ltb _ n (omega arith))
-
--- a table of bytes is a group exactly when each of its first n bytes is at most 1
-pub isGroup-most : (n : ℕ) (s : List ℕ) → (isGroup n s ≡ true) ↔ ((u : ℕ) → u < n → getD s u 0 ≤ 1)
-isGroup-most n s = simp (eqb-holds, first-all, ltb-fails) Iff·rfl
 
 -- a refusal under a test is none exactly when the test fails and what comes after is none
 pub cond-none : (b : Bool) (r s : Refusal) → eqb (r .number) 0 ≡ false → (cond b r s ≡ none) ↔ ((b ≡ false) × (s ≡ none))
@@ -81,27 +78,6 @@ pub file-proper : (f : List ℕ) → Proper (fileRefusal f)
 unfolding fileRefusal
 file-proper f = search (cond-proper, none-proper) depth 10
 
--- each of the numbers 1 to 8 is not given for the file
-pub record Accepted (f : List ℕ) : Type 0 where
-  pub long : 9 ≤ length f
-  pub mark : marked f ≡ true
-  pub version : u16At f 3 ≡ 1
-  pub order-most : graphOf f .order ≤ 2048
-  pub size-most : graphOf f .size ≤ 8192
-  pub exact : length f ≡ 9 + 4 * graphOf f .size
-  pub inside : outside (graphOf f) ≡ graphOf f .size
-  pub distinct : repeat (graphOf f) ≡ graphOf f .size
-
--- a file is accepted exactly when none of its own numbers is given
-pub accepted : (f : List ℕ) → (fileRefusal f ≡ none) ↔ Accepted f
-unfolding fileRefusal
-accepted f = simp (cond-none, first-fails, ltb-fails, not-fails, eqb-holds) (λ t. search, λ a. search)
-
--- where another refusal comes after the file's, there is none exactly when the file is accepted and the other is none
-pub accepted-orElse : (f : List ℕ) (s : Refusal) → (orElse (fileRefusal f) s ≡ none) ↔ (Accepted f × (s ≡ none))
-accepted-orElse f s =
-    (λ h. let (p, q) = orElse-both s (file-proper f) .0 h in (accepted f .0 p, q), λ (p, q). orElse-both s (file-proper f) .1 (accepted f .1 p, q))
-
 -- no link is outside exactly when each joins two vertices of the graph
 pub outside-closed : (g : Graph) → (outside g ≡ g .size) ↔ Closed g
 outside-closed g =
@@ -129,10 +105,22 @@ repeat-simple g = simp (first-all, ltb-fails) (simple, distinct)
           | no p ↦ let (i, j) = same-ends g _ e .0 (first-passes (λ d. same g d e) e (omega arith)) in absurd (omega (arith, s _ e (omega arith) l i j))
         ]
 
--- an accepted file's links join its members
-pub accepted-closed : {f : List ℕ} → Accepted f → Closed (graphOf f)
-accepted-closed {f} a = outside-closed (graphOf f) .0 (a .inside)
+-- a file is accepted exactly when none of its own numbers is given
+pub accepted : (f : List ℕ) → (fileRefusal f ≡ none) ↔ Accepted f
+unfolding fileRefusal
+accepted f =
+    simp (cond-none, first-fails, ltb-fails, not-fails, eqb-holds)
+    (λ t. search (outside-closed (graphOf f) .0, repeat-simple (graphOf f) .0), λ a. search (outside-closed (graphOf f) .1 (a .sound .closed), repeat-simple (graphOf f) .1 (a .simple)) depth 10)
 
--- and no two of them are the same
-pub accepted-simple : {f : List ℕ} → Accepted f → Simple (graphOf f)
-accepted-simple {f} a = repeat-simple (graphOf f) .0 (a .distinct)
+-- where another refusal comes after the file's, there is none exactly when the file is accepted and the other is none
+pub accepted-orElse : (f : List ℕ) (s : Refusal) → (orElse (fileRefusal f) s ≡ none) ↔ (Accepted f × (s ≡ none))
+accepted-orElse f s =
+    (λ h. let (p, q) = orElse-both s (file-proper f) .0 h in (accepted f .0 p, q), λ (p, q). orElse-both s (file-proper f) .1 (accepted f .1 p, q))
+
+-- a refusal that was found to be number 0 was none,
+pub found-none : (f : List ℕ) {r : Refusal} → r ≡ fileRefusal f → r .number ≡ 0 → fileRefusal f ≡ none
+found-none f e z = file-proper f .number-none (ap (λ t. t .number) (sym e) ∙ z)
+
+-- so the file is accepted
+pub found-accepted : (f : List ℕ) {r : Refusal} → r ≡ fileRefusal f → r .number ≡ 0 → Accepted f
+found-accepted f e z = accepted f .0 (found-none f e z)

@@ -5,7 +5,7 @@ use mathlib.Core.Logic.{_≢_}
 use mathlib.Core.Path.{_≡_, refl, sym, ap, _∙_}
 use borrow.Author.Tests.{ne-eqb}
 use Rattle.network.specs.declared.Refusal.{Refusal}
-use Rattle.network.specs.File.{none}
+use Rattle.network.specs.File.{none, plain}
 use Rattle.network.specs.Refusals.{orElse}
 use Rattle.network.specs.Calls.{Call, refused}
 
@@ -22,6 +22,11 @@ call-kept {tells = tells} e n k = refused (rw e at n) (ap tells e) k
 pub call-refused : {Answer Value : Type 0} {refusal q : Refusal} {tells : Refusal → Answer} {answers : Value → Answer} {before : List (List ℕ)} {done : Value → Type 0}
     → q ≡ refusal → q .number ≢ 0 → Call refusal tells answers before before done (tells q)
 call-refused e n = call-kept e n refl
+
+-- by a number alone
+pub call-plain : {Answer Value : Type 0} {refusal q : Refusal} {tells : Refusal → Answer} {answers : Value → Answer} {before : List (List ℕ)} {done : Value → Type 0}
+    (k : ℕ) → k ≢ 0 → q ≡ plain k → plain k ≡ refusal → Call refusal tells answers before before done (tells q)
+call-plain k n e i = call-refused (e ∙ i) (rw e n)
 
 -- an earlier refusal is that of the call
 pub orElse-first : {r : Refusal} (s : Refusal) → r .number ≢ 0 → orElse r s ≡ r

@@ -3,11 +3,12 @@ use Prim.Native.Nat.{ℕ}
 use mathlib.Core.List.{List, [], _∷_, map}
 use mathlib.Core.Path.{_≡_, refl}
 use Rattle.graph.specs.Range.{sum, first, flat}
-use Rattle.graph.specs.Order.{rankBy, nthBy}
+use Rattle.graph.specs.Graph.{reverse}
+use Rattle.graph.specs.Order.{rankBy, nthBy, starts, rows}
 use Rattle.network.specs.declared.Refusal.{Refusal}
 use Rattle.network.specs.File.{graphOf, none, plain, at, fileRefusal}
 use Rattle.network.specs.Refusals.{indexRefusal, rowRefusal, countRefusal, coreRefusal, levelRefusal, equalLevelRefusal, findingRefusal, writeRefusal}
-use Rattle.network.specs.Tables.{outStarts, outRows, inStarts, inRows, written}
+use Rattle.network.specs.Bytes.{written}
 
 -- the bytes of links between members below 256
 abbrev pub links : List (ℕ × ℕ) → List ℕ
@@ -58,7 +59,7 @@ case-refusals = refl
 
 -- the tables of a file
 abbrev pub tables : List ℕ → List (List ℕ)
-tables f = outStarts f ∷ outRows f ∷ inStarts f ∷ inRows f ∷ []
+tables f = let g = graphOf f in starts g ∷ rows g ∷ starts (reverse g) ∷ rows (reverse g) ∷ []
 
 -- those of W
 abbrev pub W-literal : List (List ℕ)

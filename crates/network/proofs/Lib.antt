@@ -1,13 +1,7 @@
 pub mod Sides
 pub mod Accepted
-pub mod Tables
+pub mod Answers
+pub mod Groups
+pub mod Puts
 pub mod Written
 pub mod Examples
-pub mod Sorts
-pub mod Repeats
-pub mod Compare
-pub mod Headers
-pub mod Answers
-pub mod Counted
-pub mod Puts
-pub mod Writer

@@ -1,16 +1,28 @@
 -- The network file: what its bytes mean, and which of the numbers 1 to 8 is given for them.
 use Prim.Native.Nat.{ℕ, _+_, _*_}
 use mathlib.Core.Bool.{Bool, not, cond, _&&_, _||_}
-use mathlib.Core.List.{List}
+use mathlib.Core.List.{List, [], _∷_}
 use lib.Dec.{eqb, leb, ltb}
 use lib.ListN.{length, getD}
 use Rattle.graph.specs.Range.{first}
-use Rattle.graph.specs.Graph.{Graph, Group}
+use Rattle.graph.specs.Graph.{Graph}
 use Rattle.network.specs.declared.Refusal.{Refusal}
+
+-- 01: a network has at most so many members
+abbrev pub mostMembers : ℕ
+mostMembers = 2048
+
+-- and so many links
+abbrev pub mostLinks : ℕ
+mostLinks = 8192
 
 -- 01: the unsigned number of 16 bits at a byte of the file, low byte first
 abbrev pub u16At : List ℕ → ℕ → ℕ
 u16At f i = getD f i 0 + 256 * getD f (i + 1) 0
+
+-- 01: where link e starts; for e = m it is the length of the file
+abbrev pub linkAt : ℕ → ℕ
+linkAt e = 9 + 4 * e
 
 -- 01: the network of a file: n members, m links
 abbrev pub graphOf : List ℕ → Graph
@@ -18,18 +30,18 @@ graphOf f =
     record {
       order = u16At f 5;
       size = u16At f 7;
-      source = λ e. u16At f (9 + 4 * e);
-      target = λ e. u16At f (11 + 4 * e);
+      source = λ e. u16At f (linkAt e);
+      target = λ e. u16At f (linkAt e + 2);
       weight = λ e. 1;
     }
 
--- 01: the group of a table of bytes: 1 in, 0 out
-abbrev pub groupOf : List ℕ → Group
-groupOf s u = eqb (getD s u 0) 1
+-- 01: the mark `VCH`
+abbrev pub mark : List ℕ
+mark = 0x56 ∷ 0x43 ∷ 0x48 ∷ []
 
--- 01: bytes 0 to 2 are the mark `VCH`
-abbrev pub marked : List ℕ → Bool
-marked f = eqb (getD f 0 0) 0x56 && eqb (getD f 1 0) 0x43 && eqb (getD f 2 0) 0x48
+-- 01: bytes 0 to 2 are the mark
+abbrev pub marked : List ℕ → List ℕ → Bool
+marked m f = eqb (getD f 0 0) (getD m 0 0) && eqb (getD f 1 0) (getD m 1 0) && eqb (getD f 2 0) (getD m 2 0)
 
 -- 01: the first link that names a member not below n, or m
 abbrev pub outside : Graph → ℕ
@@ -55,15 +67,19 @@ plain k = record { number = k; link = 0 }
 abbrev pub at : ℕ → ℕ → Refusal
 at k e = record { number = k; link = e }
 
+-- 01: the numbers with which a link's number is returned
+abbrev pub namesLink : ℕ → Bool
+namesLink k = eqb k 7 || eqb k 8
+
 -- 01: the number that the file's own bytes give, which is the refusal of the check
 unfoldable pub fileRefusal : List ℕ → Refusal
 fileRefusal f =
     cond (ltb (length f) 9) (plain 1)
-    (cond (not (marked f)) (plain 2)
+    (cond (not (marked mark f)) (plain 2)
     (cond (not (eqb (u16At f 3) 1)) (plain 3)
-    (cond (ltb 2048 (graphOf f .order)) (plain 4)
-    (cond (ltb 8192 (graphOf f .size)) (plain 5)
-    (cond (not (eqb (length f) (9 + 4 * graphOf f .size))) (plain 6)
+    (cond (ltb mostMembers (graphOf f .order)) (plain 4)
+    (cond (ltb mostLinks (graphOf f .size)) (plain 5)
+    (cond (not (eqb (length f) (linkAt (graphOf f .size)))) (plain 6)
     (cond (ltb (outside (graphOf f)) (graphOf f .size)) (at 7 (outside (graphOf f)))
     (cond (ltb (repeat (graphOf f)) (graphOf f .size)) (at 8 (repeat (graphOf f)))
     none)))))))

@@ -1,9 +1,7 @@
 pub mod File
+pub mod Groups
+pub mod Bytes
 pub mod Refusals
-pub mod Tables
 pub mod Calls
-pub mod Checks
-pub mod Counts
-pub mod Writes
 pub mod Sides
-pub mod Sorts
+pub mod Accepted

@@ -4,10 +4,9 @@ use mathlib.Core.Bool.{Bool, not, cond, _&&_, _||_}
 use mathlib.Core.List.{List}
 use lib.Dec.{eqb, leb, ltb}
 use lib.ListN.{length, getD}
-use Rattle.graph.specs.Range.{first}
-use Rattle.graph.specs.Graph.{Graph}
 use Rattle.network.specs.declared.Refusal.{Refusal}
-use Rattle.network.specs.File.{graphOf, none, plain, fileRefusal}
+use Rattle.network.specs.File.{linkAt, graphOf, none, plain, fileRefusal}
+use Rattle.network.specs.Groups.{isGroup}
 
 -- the first refusal where there is one, else the second
 abbrev pub orElse : Refusal → Refusal → Refusal
@@ -17,17 +16,9 @@ orElse r s = cond (eqb (r .number) 0) s r
 abbrev pub inOrder : List ℕ → Bool → Refusal → Refusal
 inOrder f short later = orElse (fileRefusal f) (cond short (plain 9) later)
 
--- 01: every byte among the first n of a group is 0 or 1
-abbrev pub isGroup : ℕ → List ℕ → Bool
-isGroup n s = eqb (first (λ u. ltb 1 (getD s u 0)) n) n
-
--- 01: the length of the work table of core, level, equal level and finding
-abbrev pub workLength : Graph → ℕ
-workLength g = 2 * g .size + 6 * g .order + 2
-
--- 01: the length of the written file
-abbrev pub fileLength : Graph → ℕ
-fileLength g = 9 + 4 * g .size
+-- 01: the length of the work table of core, level, equal level and finding, for n members and m links
+abbrev pub workLength : ℕ → ℕ → ℕ
+workLength n m = 2 * m + 6 * n + 2
 
 -- the file, and the lengths of out-starts, out-rows, in-starts and in-rows
 unfoldable pub indexRefusal : List ℕ → ℕ → ℕ → ℕ → ℕ → Refusal
@@ -54,22 +45,26 @@ countRefusal f s t =
 unfoldable pub coreRefusal : List ℕ → ℕ → ℕ → ℕ → Refusal
 coreRefusal f s t w =
     let g = graphOf f in
-    inOrder f (ltb s (g .order) || ltb t (g .order) || ltb w (workLength g)) none
+    inOrder f (ltb s (g .order) || ltb t (g .order) || ltb w (workLength (g .order) (g .size))) none
 
 -- the file, x or y, and the length of the work table: of level and of level across
 unfoldable pub levelRefusal : List ℕ → ℕ → ℕ → Refusal
-levelRefusal f x w = inOrder f (ltb w (workLength (graphOf f))) (cond (eqb x 0) (plain 12) none)
+levelRefusal f x w =
+    let g = graphOf f in
+    inOrder f (ltb w (workLength (g .order) (g .size))) (cond (eqb x 0) (plain 12) none)
 
 -- the file and the length of the work table
 unfoldable pub equalLevelRefusal : List ℕ → ℕ → Refusal
-equalLevelRefusal f w = inOrder f (ltb w (workLength (graphOf f))) none
+equalLevelRefusal f w =
+    let g = graphOf f in
+    inOrder f (ltb w (workLength (g .order) (g .size))) none
 
 -- the file, and the lengths of the two groups and of the work table
 unfoldable pub findingRefusal : List ℕ → ℕ → ℕ → ℕ → Refusal
 findingRefusal f s t w =
     let g = graphOf f in
-    inOrder f (ltb s (g .order) || ltb t (g .order) || ltb w (workLength g)) (cond (eqb (g .size) 0) (plain 13) none)
+    inOrder f (ltb s (g .order) || ltb t (g .order) || ltb w (workLength (g .order) (g .size))) (cond (eqb (g .size) 0) (plain 13) none)
 
 -- the file and the length of the output
 unfoldable pub writeRefusal : List ℕ → ℕ → Refusal
-writeRefusal f o = inOrder f (ltb o (fileLength (graphOf f))) none
+writeRefusal f o = inOrder f (ltb o (linkAt (graphOf f .size))) none

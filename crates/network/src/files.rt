@@ -1,9 +1,11 @@
-// Numbers of the file.
+// A network file, read: its header and the ends of its edges.
 use crate::Side;
 ghost use mathlib.Core.Path.{_≡_};
 ghost use Prim.Native.Nat.{_+_, _*_, _<_, _≤_};
 ghost use lib.ListN.{length};
-ghost use Rattle.network.specs.File.{u16At, graphOf};
+ghost use Rattle.network.specs.File.{u16At, linkAt, graphOf, marked};
+ghost use Rattle.network.specs.Accepted.{Holds};
+ghost use Rattle.network.specs.Refusals.{workLength};
 ghost use Rattle.network.specs.Sides.{seen};
 
 pub fn wide(x: u8) -> usize
@@ -26,13 +28,60 @@ pub fn u16_at(file: &[u8], at: usize) -> usize
     wide(file[at]) + 256 * wide(file[at + 1])
 }
 
+// Whether a file begins with a mark of three bytes.
+pub fn is_marked(file: &[u8], mark: &[u8]) -> bool
+    requires { ⌜ (3 ≤ length (now file)) × (3 ≤ length (now mark)) ⌝ }
+    ensures { λ r. ⌜ r ≡ marked (now (mark .entry)) (now (file .entry)) ⌝ }
+{
+    if file[0] != mark[0] {
+        return false;
+    }
+    if file[1] != mark[1] {
+        return false;
+    }
+    file[2] == mark[2]
+}
+
+// 01: n.
+pub fn order_of(file: &[u8]) -> usize
+    requires { ⌜ 9 ≤ length (now file) ⌝ }
+    ensures { λ r. ⌜ (r ≡ graphOf (now (file .entry)) .order) × (r < 65536) ⌝ }
+{
+    u16_at(file, 5)
+}
+
+// 01: m.
+pub fn size_of(file: &[u8]) -> usize
+    requires { ⌜ 9 ≤ length (now file) ⌝ }
+    ensures { λ r. ⌜ (r ≡ graphOf (now (file .entry)) .size) × (r < 65536) ⌝ }
+{
+    u16_at(file, 7)
+}
+
+// Where an edge starts in the file; past the last one it is the file's length.
+pub fn link_at(edge: usize) -> usize
+    requires { ⌜ edge < 65536 ⌝ }
+    ensures { λ r. ⌜ r ≡ linkAt edge ⌝ }
+{
+    9 + 4 * edge
+}
+
 // The vertex at one side of an edge.
 pub fn end_at(file: &[u8], side: Side, edge: usize) -> usize
-    requires { ⌜ 13 + 4 * edge ≤ length (now file) ⌝ }
+    requires { ⌜ Holds (now file) edge ⌝ }
     ensures { λ r. ⌜ (r ≡ seen side (graphOf (now (file .entry))) .source edge) × (r < 65536) ⌝ }
 {
+    let at = link_at(edge);
     match side {
-        Side::Source => u16_at(file, 9 + 4 * edge),
-        Side::Target => u16_at(file, 11 + 4 * edge),
+        Side::Source => u16_at(file, at),
+        Side::Target => u16_at(file, at + 2),
     }
+}
+
+// 01: the length of the work table.
+pub fn work_length(order: usize, size: usize) -> usize
+    requires { ⌜ (order < 65536) × (size < 65536) ⌝ }
+    ensures { λ r. ⌜ r ≡ workLength order size ⌝ }
+{
+    2 * size + 6 * order + 2
 }

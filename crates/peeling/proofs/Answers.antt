@@ -1,4 +1,4 @@
--- The answer of the core call: the groups by the degrees of a peel whose queue is drained are the core, the peel's counts are their sizes, and the
+-- The answer of the core call: the groups by the degrees of a peel whose queue is drained are the core, the peel's sizes are theirs, and the
 -- degrees of the sources add up to the edges between them.
 use Prim.Native.Nat.{ℕ, _+_, _*_, _<_}
 use mathlib.Core.Bool.{true}
@@ -10,30 +10,30 @@ use lib.Dec.{leb}
 use lib.ListN.{drop}
 use Rattle.graph.specs.Range.{sum, if}
 use Rattle.graph.specs.Graph.{Graph, Group, card, edges}
-use Rattle.graph.specs.Core.{Same, Core}
+use Rattle.graph.specs.Core.{Core}
+use Rattle.graph.specs.Shapes.{Same}
 use Rattle.graph.specs.Cover.{need, targets}
 use Rattle.graph.proofs.Sums.{sum-ext}
 use Rattle.graph.proofs.Degrees.{edges-same}
 use Rattle.graph.proofs.Exists.{core-same}
 use Rattle.network.specs.declared.Totals.{Totals}
-use Rattle.network.specs.File.{groupOf}
-use Rattle.network.specs.Tables.{bytesOf}
-use Rattle.network.proofs.Counted.{totals-same}
+use Rattle.network.specs.Groups.{groupOf, bytesOf}
+use Rattle.network.proofs.Groups.{totals-same}
 use Rattle.peeling.specs.declared.Peel.{Peel}
 use Rattle.peeling.specs.declared.Scope.{Scope}
 use Rattle.peeling.specs.Peeling.{degreeOf, left, Indexed, Tabled, Peeling, Ended}
-use Rattle.peeling.specs.Groups.{atLeast, weightOf, CoreIn}
+use Rattle.peeling.specs.Groups.{atLeast, sumAtLeast, CoreIn}
 use Rattle.peeling.proofs.Kept.{tabled-kept}
 use Rattle.peeling.proofs.Finished.{left-source, left-target, finished-core, finished-edges}
-use Rattle.peeling.proofs.Bytes.{written-group, written}
+use Rattle.peeling.proofs.Bytes.{written-group, written-in}
 
 -- what a peel by a scope is for a graph of the scope's numbers of vertices and edges
-pub ended-peeling : {g : Graph} {c : Scope} {w w′ : List ℕ} {p : Peel} → Tabled g (c .order) (c .size) w → Ended true c w w′ p
+ended-peeling : {g : Graph} {c : Scope} {w w′ : List ℕ} {p : Peel} → Tabled g (c .order) (c .size) w → Ended true c w w′ p
     → Peeling (g .order) (c .size) (need (g .order) (c .x) (c .y)) w′ p
 ended-peeling t e = rw (t .order) (e .peeling)
 
 -- the peel's table holds the graph still
-pub ended-indexed : {g : Graph} {c : Scope} {w w′ : List ℕ} {p : Peel} → Tabled g (c .order) (c .size) w → Ended true c w w′ p → Indexed g (c .size) w′
+ended-indexed : {g : Graph} {c : Scope} {w w′ : List ℕ} {p : Peel} → Tabled g (c .order) (c .size) w → Ended true c w w′ p → Indexed g (c .size) w′
 ended-indexed t e = tabled-kept t (e .kept) .indexed
 
 module _ {c : Scope} {w w′ : List ℕ} {p : Peel} (e : Ended true c w w′ p) {g : Graph} (t : Tabled g (c .order) (c .size) w) {A B : Group}
@@ -55,12 +55,12 @@ module _ {c : Scope} {w w′ : List ℕ} {p : Peel} (e : Ended true c w w′ p) 
   -- the peel has their sizes
   ended-sources : p .sources ≡ card g A
   ended-sources =
-      ended-peeling t e .counts .sources ∙ sum-ext (g .order) (λ u l. rw (sources-same u l))
+      ended-peeling t e .queued .sizes .sources ∙ sum-ext (g .order) (λ u l. rw (sources-same u l))
 
   -- on both sides
   ended-targets : p .targets ≡ card g B
   ended-targets =
-      ended-peeling t e .counts .targets ∙ sum-ext (g .order) (λ v l. rw (targets-same v l))
+      ended-peeling t e .queued .sizes .targets ∙ sum-ext (g .order) (λ v l. rw (targets-same v l))
 
   -- and its table their edges
   ended-edges : sum (λ u. if (leb (c .x) (degreeOf (g .order) (c .size) w′ u)) (degreeOf (g .order) (c .size) w′ u)) (g .order) ≡ edges g A B
@@ -73,7 +73,7 @@ module _ {c : Scope} {w w′ s′ t′ : List ℕ} {p : Peel} {r : Totals} (s t 
     (start : at ≡ 2 * c .order + 1 + 2 * c .size)
     (first : s′ ≡ bytesOf (c .order) (atLeast w′ at (c .x)) ++ drop (c .order) s)
     (second : t′ ≡ bytesOf (c .order) (atLeast w′ (at + c .order) (c .y)) ++ drop (c .order) t)
-    (sources : r .sources ≡ p .sources) (targets : r .targets ≡ p .targets) (total : r .edges ≡ weightOf w′ at (c .x) (c .order)) where
+    (sources : r .sources ≡ p .sources) (targets : r .targets ≡ p .targets) (total : r .edges ≡ sumAtLeast w′ at (c .x) (c .order)) where
   -- the bytes of the first group are by the degrees of the sources
   bytes-source : {g : Graph} → Tabled g (c .order) (c .size) w → (u : ℕ) → u < g .order
       → groupOf s′ u ≡ leb (c .x) (degreeOf (g .order) (c .size) w′ u)
@@ -95,12 +95,12 @@ module _ {c : Scope} {w w′ s′ t′ : List ℕ} {p : Peel} {r : Totals} (s t 
             (total ∙ same-total k ∙ ended-edges e k (bytes-source k) (bytes-target k))
             (sources ∙ ended-sources e k (bytes-source k) (bytes-target k))
             (targets ∙ ended-targets e k (bytes-source k) (bytes-target k));
-        sources = written (c .order) (atLeast w′ at (c .x)) s first;
-        targets = written (c .order) (atLeast w′ (at + c .order) (c .y)) t second;
+        sources = written-in (c .order) (atLeast w′ at (c .x)) s first;
+        targets = written-in (c .order) (atLeast w′ (at + c .order) (c .y)) t second;
         kept = e .kept;
       }
     where
       same-total : {g : Graph} → Tabled g (c .order) (c .size) w
-          → weightOf w′ at (c .x) (c .order)
+          → sumAtLeast w′ at (c .x) (c .order)
           ≡ sum (λ u. if (leb (c .x) (degreeOf (g .order) (c .size) w′ u)) (degreeOf (g .order) (c .size) w′ u)) (g .order)
       same-total k = rw (k .order, start)

@@ -8,9 +8,8 @@ use lib.ListN.{length, getD, set, drop, List·getD-append}
 use Rattle.graph.specs.Range.{if, flat, table}
 use Rattle.graph.specs.Graph.{Group}
 use Rattle.graph.proofs.Ranges.{table-ext, table-fill}
-use Rattle.network.specs.File.{groupOf}
-use Rattle.network.specs.Tables.{bytesOf, GroupIn}
-use Rattle.network.proofs.Tables.{length-bytesOf, groupOf-bytesOf}
+use Rattle.network.specs.Groups.{groupOf, bytesOf, GroupIn}
+use Rattle.network.proofs.Groups.{length-bytesOf, groupOf-bytesOf}
 
 -- at first nothing is written
 pub fill-begins : (f : ℕ → ℕ) (d : List ℕ) → d ≡ table f 0 ++ drop 0 d
@@ -28,5 +27,5 @@ written-group n S s e u l =
     ap (λ b. eqb b 1) (ap (λ t. getD t u 0) e ∙ List·getD-append (bytesOf n S) (drop n s) 0 u (rw (length-bytesOf n S) l)) ∙ groupOf-bytesOf n S u l
 
 -- so the bytes are those of the group that is read from them
-pub written : (n : ℕ) (S : Group) (s : List ℕ) {s′ : List ℕ} → s′ ≡ bytesOf n S ++ drop n s → GroupIn n s s′
-written n S s e = e ∙ ap (λ t. t ++ drop n s) (table-ext n (λ u l. ap (λ b. if b 1) (sym (written-group n S s e u l))))
+pub written-in : (n : ℕ) (S : Group) (s : List ℕ) {s′ : List ℕ} → s′ ≡ bytesOf n S ++ drop n s → GroupIn n s s′
+written-in n S s e = e ∙ ap (λ t. t ++ drop n s) (table-ext n (λ u l. ap (λ b. if b 1) (sym (written-group n S s e u l))))

@@ -13,7 +13,7 @@ use Rattle.graph.proofs.Linkage.{degree-same}
 use Rattle.graph.proofs.Links.{degree-links}
 use Rattle.peeling.specs.declared.Peel.{Peel}
 use Rattle.peeling.specs.declared.Scope.{Scope}
-use Rattle.peeling.specs.Peeling.{startOf, rowLength, queueOf, entries, links, live, Rows, Indexed, Tabled, Kept, Ended}
+use Rattle.peeling.specs.Peeling.{startOf, rowLength, queueOf, entries, between, live, Rows, Indexed, Tabled, Kept, Ended}
 use Rattle.peeling.proofs.Live.{live-ext}
 use Rattle.peeling.proofs.Tables.{row-inside}
 
@@ -52,9 +52,9 @@ module _ {n m : ℕ} {w w′ : List ℕ} (r : Rows n m w) (k : Kept n m w w′) 
       rw (start-kept p (omega arith), k .index (2 * n + 1 + (startOf w p + i)) (omega (arith, row-inside r p i l (omega arith)))))
 
   -- and the edges
-  pub links-kept : (p q : ℕ) → p < 2 * n → links n w′ p q ≡ links n w p q
-  unfolding links
-  links-kept p q l = rw (start-kept p (omega arith), start-kept (p + 1) (omega arith)) (entries-kept p _ q l (omega arith))
+  pub between-kept : (p q : ℕ) → p < 2 * n → between n w′ p q ≡ between n w p q
+  unfolding between
+  between-kept p q l = rw (start-kept p (omega arith), start-kept (p + 1) (omega arith)) (entries-kept p _ q l (omega arith))
 
   -- a table that keeps rows holds rows
   pub rows-kept : Rows n m w′
@@ -63,20 +63,22 @@ module _ {n m : ℕ} {w w′ : List ℕ} (r : Rows n m w) (k : Kept n m w w′) 
         long = omega (arith, r .long, k .same-length);
         ascending = λ p l. rw (start-kept p (omega arith), start-kept (p + 1) (omega arith)) (r .ascending p l);
         last = rw (start-kept (2 * n) (omega arith)) (r .last);
-        inside = λ i l. rw (k .index (2 * n + 1 + i) (omega arith)) (r .inside i l);
-        symmetric = λ p q a b. links-kept p q a ∙ r .symmetric p q a b ∙ sym (links-kept q p b);
+        inside = λ p i l b.
+            let c : i < rowLength w p = rw (start-kept p (omega arith), start-kept (p + 1) (omega arith)) at b in
+            rw (start-kept p (omega arith), k .index (2 * n + 1 + (startOf w p + i)) (omega (arith, row-inside r p i l c))) (r .inside p i l c);
+        symmetric = λ p q a b. between-kept p q a ∙ r .symmetric p q a b ∙ sym (between-kept q p b);
       }
 
   -- where the queues agree, the degrees among what is left are the same
   pub degree-kept : (h p : ℕ) → ((i : ℕ) → i < h → queueOf n m w i ≡ queueOf n m w′ i) → p < 2 * n
-      → degree (links n w) (2 * n) (live (queueOf n m w) h) p ≡ degree (links n w′) (2 * n) (live (queueOf n m w′) h) p
+      → degree (between n w) (2 * n) (live (queueOf n m w) h) p ≡ degree (between n w′) (2 * n) (live (queueOf n m w′) h) p
   degree-kept h p e l =
-      degree-links (links n w) (links n w′) (live (queueOf n m w) h) p (λ q b. sym (links-kept p q l))
-      ∙ degree-same (links n w′) (λ q b. live-ext h e q) p
+      degree-links (between n w) (between n w′) (live (queueOf n m w) h) p (λ q b. sym (between-kept p q l))
+      ∙ degree-same (between n w′) (λ q b. live-ext h e q) p
 
 -- the rows of a graph are so still
-pub indexed-kept : {g : Graph} {m : ℕ} {w w′ : List ℕ} → Indexed g m w → Kept (g .order) m w w′ → Indexed g m w′
-indexed-kept i k = record { rows = rows-kept (i .rows) k; linked = λ p q a b. links-kept (i .rows) k p q a ∙ i .linked p q a b }
+indexed-kept : {g : Graph} {m : ℕ} {w w′ : List ℕ} → Indexed g m w → Kept (g .order) m w w′ → Indexed g m w′
+indexed-kept i k = record { rows = rows-kept (i .rows) k; linked = λ p q a b. between-kept (i .rows) k p q a ∙ i .linked p q a b }
 
 -- and so for its number of vertices
 pub tabled-kept : {g : Graph} {n m : ℕ} {w w′ : List ℕ} → Tabled g n m w → Kept n m w w′ → Tabled g n m w′

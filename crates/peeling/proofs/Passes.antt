@@ -5,10 +5,11 @@ use mathlib.Core.Path.{_≡_, refl, ap, _∙_}
 use native.Mathlib.Omega.{arith}
 use lib.ListN.{length, getD}
 use Rattle.peeling.specs.declared.Peel.{Peel}
-use Rattle.peeling.specs.Peeling.{startOf, rowLength, rowEntry, degreeOf, Rows, Peeling, Dropping, Kept, Room, loweredPeel, loweredTable}
+use Rattle.peeling.specs.Peeling.{startOf, rowLength, rowEntry, degreeOf, Rows, Peeling, Dropping, Kept, Pushable, loweredPeel, loweredTable}
 use Rattle.peeling.proofs.Tables.{start-last}
 use Rattle.peeling.proofs.Kept.{kept-same, kept-next, start-kept}
-use Rattle.peeling.proofs.Drops.{drop-inside, drop-some, drop-room, drop-lowers, drop-keeps, drop-ends, lowered-head}
+use Rattle.peeling.proofs.Losses.{drop-inside, drop-some, drop-ends}
+use Rattle.peeling.proofs.Drops.{drop-room, drop-lowers, drop-keeps, lowered-head}
 
 -- of the row of a place, entries k₀ up to end of the table w₀, those before k are passed; the table is now w, and the peel s
 pub record Passing (n m : ℕ) (need : ℕ → ℕ) (w₀ : List ℕ) (s₀ : Peel) (place k₀ end : ℕ) (w : List ℕ) (s : Peel) (k : ℕ) : Type 0 where
@@ -28,7 +29,7 @@ pass-begins {w = w} {place = place} {k = k} d a b =
       from = a;
       upto = b;
       begun = omega arith;
-      within = omega (arith, d .rows .ascending place (d .is-place));
+      within = omega (arith, d .queued .rows .ascending place (d .is-place));
       dropping = rw (none k) d;
       head = refl;
       kept = kept-same w;
@@ -55,7 +56,7 @@ module _ {n m : ℕ} {need : ℕ → ℕ} {w₀ : List ℕ} {s₀ : Peel} {place
   module _ (l : k < end) where
     -- it is in the table
     pub pass-inside : k < length w
-    pass-inside = omega (arith, start-last r (place + 1) (omega (arith, g .dropping .is-place)), g .upto, g .dropping .rows .long)
+    pass-inside = omega (arith, start-last r (place + 1) (omega (arith, g .dropping .is-place)), g .upto, g .dropping .queued .rows .long)
 
     -- as an entry of the row
     entry : k - k₀ < rowLength w place
@@ -79,7 +80,7 @@ module _ {n m : ℕ} {need : ℕ → ℕ} {w₀ : List ℕ} {s₀ : Peel} {place
       pass-some = rw is-entry (drop-some (g .dropping) entry)
 
       -- which can be pushed where it becomes short
-      pub pass-room : degreeOf n m w q ≡ need q → Room n s q
+      pub pass-room : degreeOf n m w q ≡ need q → Pushable n s q
       pass-room = rw is-entry (drop-room (g .dropping) entry)
 
       -- when it has lost its edge, one entry more is passed

@@ -5,26 +5,22 @@ use mathlib.Core.List.{List}
 use mathlib.Core.Logic.{_≢_, _⊎_, inl, inr}
 use mathlib.Core.Path.{_≡_, refl, sym, _∙_}
 use native.Mathlib.Decide.{ℕ-discrete, decLt}
-use native.Mathlib.Nat.{le-refl, ne-of-lt}
+use native.Mathlib.Nat.{le-refl}
 use native.Mathlib.Omega.{arith}
 use borrow.Author.Tests.{lt-ltb, le-ltb, le-leb, lt-leb}
 use lib.Dec.{leb, ltb}
 use Rattle.graph.specs.Cover.{need}
 use Rattle.peeling.specs.declared.Peel.{Peel}
-use Rattle.peeling.specs.Peeling.{degreeOf, queueOf, Peeling, Kept, Room, raised, pushed, withQueued}
-use Rattle.peeling.proofs.Queues.{queue-stays, queue-grows}
-use Rattle.peeling.proofs.Sides.{push-room, push-counts}
-use Rattle.peeling.proofs.Tables.{with-queued-same, with-queued-other, with-queued-degree}
-use Rattle.peeling.proofs.Kept.{kept-set, links-kept, rows-kept, degree-kept}
+use Rattle.peeling.specs.Peeling.{degreeOf, Peeling, Kept, Pushable, raised, pushed, withQueued}
+use Rattle.peeling.proofs.Tables.{with-queued-degree}
+use Rattle.peeling.proofs.Kept.{kept-same}
+use Rattle.peeling.proofs.Pushes.{Step, queued-room, queued-stays, queued-grows, full-keeps, full-undropped}
 
 -- places that need the same are short alike
-pub peel-needs : {n m : ℕ} {need need′ : ℕ → ℕ} {w : List ℕ} {s : Peel} → ((p : ℕ) → p < 2 * n → need p ≡ need′ p) → Peeling n m need w s → Peeling n m need′ w s
-peel-needs e k =
+peel-needs : {n m : ℕ} {need need′ : ℕ → ℕ} {w : List ℕ} {s : Peel} → ((p : ℕ) → p < 2 * n → need p ≡ need′ p) → Peeling n m need w s → Peeling n m need′ w s
+peel-needs {w = w} e k =
     record {
-      rows = k .rows;
-      waiting = k .waiting;
-      queue = queue-stays (λ p q a b. refl) (λ p b. rw (e p b) (le-refl _)) (λ j b. refl) (k .queue) (λ p b. rw (e p b));
-      counts = k .counts;
+      queued = queued-stays record { queued = k .queued; kept = kept-same w; more = λ p b. rw (e p b) (le-refl _); same = λ j b. refl } (λ p b. rw (e p b));
       degrees = k .degrees;
     }
 
@@ -47,11 +43,11 @@ need-side n x y {first} {p} (inl e) l h = rw (lt-ltb p n (omega arith), lt-ltb f
 need-side n x y {first} {p} (inr e) l h = rw (le-ltb p n (omega arith), le-ltb first n (omega arith))
 
 -- before place i the new number is needed
-pub raised-new : (old new : ℕ → ℕ) {i p : ℕ} → p < i → raised old new i p ≡ new p
+raised-new : (old new : ℕ → ℕ) {i p : ℕ} → p < i → raised old new i p ≡ new p
 raised-new old new l = rw (lt-ltb _ _ l)
 
 -- from it on the old one
-pub raised-old : (old new : ℕ → ℕ) {i p : ℕ} → i ≤ p → raised old new i p ≡ old p
+raised-old : (old new : ℕ → ℕ) {i p : ℕ} → i ≤ p → raised old new i p ≡ old p
 raised-old old new l = rw (le-ltb _ _ l)
 
 -- so at first a peel goes by the old numbers
@@ -78,7 +74,7 @@ raise-skips old new {i = i} {j} l e = peel-needs (λ p b. same p)
         ]
 
 -- only place i needs another number one place further
-pub raised-other : (old new : ℕ → ℕ) {i p : ℕ} → p ≢ i → raised old new i p ≡ raised old new (i + 1) p
+raised-other : (old new : ℕ → ℕ) {i p : ℕ} → p ≢ i → raised old new i p ≡ raised old new (i + 1) p
 raised-other old new {i} {p} h =
     elim (decLt p i) [
       | yes l ↦ raised-new old new l ∙ sym (raised-new old new {i = i + 1} (omega arith))
@@ -98,15 +94,16 @@ module _ {n m : ℕ} (old new : ℕ → ℕ) {w : List ℕ} {s : Peel} (i : ℕ)
   grown : (p : ℕ) → p < 2 * n → raised old new i p ≤ raised old new (i + 1) p
   grown p b = elim (ℕ-discrete p i) [ yes e ↦ rw (e, here, next) more | no e ↦ rw (raised-other old new e) (le-refl _) ]
 
+  -- a step that changes this one need, and nothing in the table
+  step : Step n m (raised old new i) (raised old new (i + 1)) w w s
+  step = record { queued = k .queued; kept = kept-same w; more = grown; same = λ j b. refl }
+
   -- place i is short as it was, or has enough as it had
-  pub raise-stays : leb (old i) (degreeOf n m w i) ≡ leb (new i) (degreeOf n m w i) → Peeling n m (raised old new (i + 1)) w s
+  raise-stays : leb (old i) (degreeOf n m w i) ≡ leb (new i) (degreeOf n m w i) → Peeling n m (raised old new (i + 1)) w s
   raise-stays e =
       record {
-        rows = k .rows;
-        waiting = k .waiting;
-        queue = queue-stays (λ p q a b. refl) grown (λ j b. refl) (k .queue) (λ p b.
+        queued = queued-stays step (λ p b.
             elim (ℕ-discrete p i) [ yes q ↦ rw (q, here, next) e | no q ↦ rw (raised-other old new q) ]);
-        counts = k .counts;
         degrees = k .degrees;
       }
 
@@ -125,44 +122,24 @@ module _ {n m : ℕ} (old new : ℕ → ℕ) {w : List ℕ} {s : Peel} (i : ℕ)
     was-enough = rw here (le-leb _ _ enough)
 
     -- so there is room for it
-    pub raise-room : Room n s i
-    raise-room = push-room (k .queue) (k .counts) i l was-enough
+    pub raise-room : Pushable n s i
+    raise-room = queued-room (k .queued) i l was-enough
 
     -- the store keeps the rows
-    pub raise-keeps : Kept n m w (withQueued n m w (s .tail) i)
-    raise-keeps = kept-set n m w (4 * n + 1 + 2 * m + s .tail) i (omega arith) (omega (arith, raise-room .tail))
+    raise-keeps : Kept n m w (withQueued n m w (s .tail) i)
+    raise-keeps = full-keeps step i l was-enough
 
     -- and pushes the place
-    pub raise-pushes : Peeling n m (raised old new (i + 1)) (withQueued n m w (s .tail) i) (pushed n s i)
+    raise-pushes : Peeling n m (raised old new (i + 1)) (withQueued n m w (s .tail) i) (pushed n s i)
     raise-pushes =
         record {
-          rows = rows-kept (k .rows) raise-keeps;
-          waiting = omega (arith, k .waiting);
-          queue = queue-grows (λ p q a b. sym (links-kept (k .rows) raise-keeps p q a)) grown same (k .queue) i (s .head) l (k .waiting)
-              top
-              was-enough
-              (rw (next, degree i l) less)
-              (rw (← degree-kept (k .rows) raise-keeps (s .head) i before l, degree i l, k .degrees i l) (le-refl _))
-              (λ p b q. rw (raised-other old new q, degree p b));
-          counts = push-counts (k .queue) (k .counts) same i l top was-enough;
-          degrees = λ p b. degree p b ∙ k .degrees p b ∙ degree-kept (k .rows) raise-keeps (s .head) p before b;
+          queued =
+              queued-grows step i l was-enough
+              (rw next less)
+              (rw (k .degrees i l) (le-refl _))
+              (λ p b q. rw (raised-other old new q));
+          degrees = λ p b. with-queued-degree n m w (s .tail) i p b ∙ k .degrees p b ∙ full-undropped step i l was-enough p b;
         }
-      where
-        -- the queue up to the place pushed is as it was
-        same : (j : ℕ) → j < s .tail → queueOf n m w j ≡ queueOf n m (withQueued n m w (s .tail) i) j
-        same j b = sym (with-queued-other n m w (s .tail) i j (ne-of-lt b))
-
-        -- where the place stands now
-        top : queueOf n m (withQueued n m w (s .tail) i) (s .tail) ≡ i
-        top = with-queued-same n m w (s .tail) i (omega (arith, raise-room .tail, k .rows .long))
-
-        -- before the head it is as it was too
-        before : (j : ℕ) → j < s .head → queueOf n m w j ≡ queueOf n m (withQueued n m w (s .tail) i) j
-        before j b = same j (omega (arith, k .waiting))
-
-        -- and so are the degrees
-        degree : (p : ℕ) → p < 2 * n → degreeOf n m (withQueued n m w (s .tail) i) p ≡ degreeOf n m w p
-        degree p b = with-queued-degree n m w (s .tail) i p b
 
     -- at the table and the peel that `push` hands back
     pub raise-next : {w′ : List ℕ} {s′ : Peel} → s′ ≡ pushed n s i → w′ ≡ withQueued n m w (s .tail) i → Peeling n m (raised old new (i + 1)) w′ s′ × Kept n m w w′

@@ -2,22 +2,19 @@
 use Prim.Native.Nat.{ℕ, _+_, _-_, _*_, _<_, _≤_}
 use mathlib.Core.Bool.{true, cond}
 use mathlib.Core.Logic.{_≢_}
-use mathlib.Core.Path.{_≡_, sym, ap, _∙_}
+use mathlib.Core.Path.{_≡_, ap, _∙_}
 use native.Mathlib.Decide.{decLt}
 use native.Mathlib.Nat.{add-left-cancel}
-use native.Mathlib.Numerals.{add-one}
 use native.Mathlib.Omega.{arith}
 use borrow.Author.Tests.{lt-ltb, le-ltb, eqb-true, eq-eqb, ne-eqb}
-use lib.Dec.{eqb, leb, ltb}
+use lib.Dec.{eqb, ltb}
 use Rattle.graph.specs.Range.{sum, if}
 use Rattle.graph.specs.Graph.{Group}
 use Rattle.graph.proofs.Tests.{test-ext}
 use Rattle.graph.proofs.Sums.{sum-ext}
 use Rattle.graph.proofs.Degrees.{without, sum-without}
 use Rattle.peeling.specs.declared.Peel.{Peel}
-use Rattle.peeling.specs.Peeling.{live, Queue, Counts, Room, pushed}
-use Rattle.peeling.proofs.Live.{live-suc, live-ext}
-use Rattle.peeling.proofs.Queues.{queue-room}
+use Rattle.peeling.specs.Peeling.{Sizes, pushed}
 
 -- of n places f p, one that is taken out is missing
 side-less : (f : ℕ → ℕ) → ((p q : ℕ) → f p ≡ f q → p ≡ q) → (n : ℕ) (R : Group) (v : ℕ) → v < n → R (f v) ≡ true
@@ -32,14 +29,14 @@ side-same : (f : ℕ → ℕ) (n : ℕ) (R : Group) (q : ℕ) → ((p : ℕ) →
 side-same f n R q h = sum-ext n (λ p b. rw (ne-eqb (f p) q (h p b)))
 
 -- the same places are as many
-pub counts-same : {n : ℕ} {R R′ : Group} {s : Peel} → ((p : ℕ) → R p ≡ R′ p) → Counts n R s → Counts n R′ s
-counts-same {n} e c =
+pub sizes-same : {n : ℕ} {R R′ : Group} {s : Peel} → ((p : ℕ) → R p ≡ R′ p) → Sizes n R s → Sizes n R′ s
+sizes-same {n} e c =
     record {
       sources = c .sources ∙ sum-ext n (λ p l. rw (e p));
       targets = c .targets ∙ sum-ext n (λ p l. rw (e (n + p)));
     }
 
-module _ {n : ℕ} {R : Group} {s : Peel} (c : Counts n R s) (q : ℕ) (l : q < 2 * n) (h : R q ≡ true) where
+module _ {n : ℕ} {R : Group} {s : Peel} (c : Sizes n R s) (q : ℕ) (l : q < 2 * n) (h : R q ≡ true) where
   -- a source taken out of R
   source-less : q < n → s .sources ≡ sum (λ p. if (without R q p) 1) n + 1
   source-less b = c .sources ∙ side-less (λ p. p) (λ p p′ e. e) n R q b h
@@ -52,16 +49,16 @@ module _ {n : ℕ} {R : Group} {s : Peel} (c : Counts n R s) (q : ℕ) (l : q < 
       at v e = c .targets ∙ rw e (side-less (λ p. n + p) (λ p p′. add-left-cancel n) n R v (omega arith) (rw e at h))
 
   -- so the place's own side has somebody
-  pub counts-some : 1 ≤ cond (ltb q n) (s .sources) (s .targets)
-  counts-some =
+  pub sizes-some : 1 ≤ cond (ltb q n) (s .sources) (s .targets)
+  sizes-some =
       elim (decLt q n) [
         | yes b ↦ rw (lt-ltb q n b) (omega (arith, source-less b))
         | no b ↦ rw (le-ltb q n (omega arith)) (omega (arith, target-less (omega arith)))
       ]
 
   -- and one less without it, while the other is as it was
-  pub counts-without : Counts n (without R q) (pushed n s q)
-  counts-without =
+  pub sizes-without : Sizes n (without R q) (pushed n s q)
+  sizes-without =
       elim (decLt q n) [
         | yes b ↦ rw (lt-ltb q n b) (record {
           sources = omega (arith, source-less b);
@@ -72,15 +69,3 @@ module _ {n : ℕ} {R : Group} {s : Peel} (c : Counts n R s) (q : ℕ) (l : q < 
           targets = omega (arith, target-less (omega arith));
         })
       ]
-
--- a place that is not short can be pushed
-pub push-room : {L : ℕ → ℕ → ℕ} {n : ℕ} {need degrees queue : ℕ → ℕ} {s : Peel} → Queue L (2 * n) need degrees queue (s .tail)
-    → Counts n (live queue (s .tail)) s → (q : ℕ) → q < 2 * n → leb (need q) (degrees q) ≡ true → Room n s q
-push-room k c q l h = record { tail = queue-room k q l h; side = counts-some c q l (k .short q l ∙ h) }
-
--- and is then counted out
-pub push-counts : {L : ℕ → ℕ → ℕ} {n : ℕ} {need degrees queue queue′ : ℕ → ℕ} {s : Peel} → Queue L (2 * n) need degrees queue (s .tail)
-    → Counts n (live queue (s .tail)) s → ((i : ℕ) → i < s .tail → queue i ≡ queue′ i) → (q : ℕ) → q < 2 * n → queue′ (s .tail) ≡ q
-    → leb (need q) (degrees q) ≡ true → Counts n (live queue′ (s .tail + 1)) (pushed n s q)
-push-counts {queue = queue} {queue′ = queue′} {s = s} k c same q l top h =
-    counts-same (λ p. sym (rw (add-one (s .tail)) (live-suc queue′ (s .tail) p ∙ rw (top, ← live-ext (s .tail) same p)))) (counts-without c q l (k .short q l ∙ h))

@@ -7,12 +7,12 @@ use native.Mathlib.Nat.{le-refl}
 use native.Mathlib.Omega.{arith}
 use lib.ListN.{length}
 use lib.Seq.{getD-set-same, getD-set-other}
-use Rattle.graph.proofs.Ascents.{ascends}
+use Rattle.graph.proofs.Monotone.{monotone}
 use Rattle.peeling.specs.Peeling.{startOf, rowLength, degreeOf, queueOf, Rows, withQueued, withDegree}
 
 -- no start is past the rows
 pub start-last : {n m : ℕ} {w : List ℕ} → Rows n m w → (p : ℕ) → p ≤ 2 * n → startOf w p ≤ 2 * m
-start-last {n} {m} {w} r p l = omega (arith, ascends (startOf w) (2 * n) (r .ascending) p (2 * n) l (le-refl _), r .last)
+start-last {n} {m} {w} r p l = omega (arith, monotone (startOf w) (2 * n) (r .ascending) p (2 * n) l (le-refl _), r .last)
 
 -- so an entry of a row is one of the rows
 pub row-inside : {n m : ℕ} {w : List ℕ} → Rows n m w → (p i : ℕ) → p < 2 * n → i < rowLength w p → startOf w p + i < 2 * m

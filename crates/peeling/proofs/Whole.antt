@@ -12,17 +12,17 @@ use Rattle.graph.specs.Linkage.{degree}
 use Rattle.graph.specs.Cover.{need}
 use Rattle.graph.proofs.Sums.{sum-ext, sum-swap, sum-pick, sum-ones, below-suc}
 use Rattle.graph.proofs.Linkage.{surrounds-all}
-use Rattle.peeling.specs.Peeling.{startOf, rowLength, rowEntry, degreeOf, queueOf, entries, links, live, Rows, Peeling, Kept, withDegree}
-use Rattle.peeling.proofs.Tables.{row-inside, with-degree-same, with-degree-other}
+use Rattle.peeling.specs.Peeling.{startOf, rowLength, rowEntry, degreeOf, queueOf, entries, between, live, Rows, Peeling, Kept, withDegree}
+use Rattle.peeling.proofs.Tables.{with-degree-same, with-degree-other}
 use Rattle.peeling.proofs.Kept.{kept-next, kept-set, start-kept, rows-kept}
 
 -- the edges of a place to all places are the entries of its row
 pub row-degree : {n m : ℕ} {w : List ℕ} → Rows n m w → (queue : ℕ → ℕ) (p : ℕ) → p < 2 * n
-    → degree (links n w) (2 * n) (live queue 0) p ≡ rowLength w p
-unfolding degree links entries live
+    → degree (between n w) (2 * n) (live queue 0) p ≡ rowLength w p
+unfolding degree between entries live
 row-degree {n} {m} {w} r queue p l =
     sum-swap (λ q i. if (eqb (rowEntry n w (startOf w p + i)) q) 1) (rowLength w p) (2 * n)
-    ∙ sum-ext (rowLength w p) (λ i b. sum-pick (λ q. 1) (2 * n) (rowEntry n w (startOf w p + i)) (r .inside _ (row-inside r p i l b)))
+    ∙ sum-ext (rowLength w p) (λ i b. sum-pick (λ q. 1) (2 * n) (rowEntry n w (startOf w p + i)) (r .inside p i l b))
     ∙ sum-ones _
 
 -- the degrees of whole rows, filled in for the places before i
@@ -31,9 +31,9 @@ pub record Filled (n m : ℕ) (w₀ w : List ℕ) (i : ℕ) : Type 0 where
   pub degrees : (p : ℕ) → p < i → degreeOf n m w p ≡ rowLength w₀ p
 
 -- and for one place more
-pub fill-next : {n m : ℕ} {w₀ w w′ : List ℕ} (i : ℕ) → Rows n m w₀ → Filled n m w₀ w i → i < 2 * n
+pub filled-next : {n m : ℕ} {w₀ w w′ : List ℕ} (i : ℕ) → Rows n m w₀ → Filled n m w₀ w i → i < 2 * n
     → w′ ≡ withDegree n m w i (rowLength w i) → Filled n m w₀ w′ (i + 1)
-fill-next {n} {m} {w₀} {w} {w′} i r f l e =
+filled-next {n} {m} {w₀} {w} {w′} i r f l e =
     rw e
     record {
       kept = kept-next (f .kept) (kept-set n m w (2 * n + 1 + 2 * m + i) _ (omega arith) (omega arith));
@@ -44,7 +44,7 @@ fill-next {n} {m} {w₀} {w} {w′} i r f l e =
     }
 
 -- where x and y are 0 no place needs an edge
-pub none-needed : (n p : ℕ) → need n 0 0 p ≡ 0
+none-needed : (n p : ℕ) → need n 0 0 p ≡ 0
 none-needed n p = either (ltb p n)
   where
     either : (b : Bool) → cond {A = ℕ} b 0 0 ≡ 0
@@ -57,16 +57,19 @@ pub whole-peel : {n m : ℕ} {w w′ : List ℕ} → Rows n m w → Kept n m w w
 unfolding live
 whole-peel {n} {m} {w} {w′} r k e =
     record {
-      rows = rows-kept r k;
-      waiting = omega arith;
-      queue =
+      queued =
           record {
-            inside = λ i l. absurd (omega arith);
-            distinct = λ i l. absurd (omega arith);
-            short = λ p l. sym (le-leb (need n 0 0 p) (degreeOf n m w′ p) (omega (arith, none-needed n p)));
-            surrounds = surrounds-all (links n w′) (2 * n) (need n 0 0);
+            rows = rows-kept r k;
+            waiting = omega arith;
+            queue =
+                record {
+                  inside = λ i l. absurd (omega arith);
+                  distinct = λ i l. absurd (omega arith);
+                  short = λ p l. sym (le-leb (need n 0 0 p) (degreeOf n m w′ p) (omega (arith, none-needed n p)));
+                  surrounds = surrounds-all (between n w′) (2 * n) (need n 0 0);
+                };
+            sizes = record { sources = sym (sum-ones n); targets = sym (sum-ones n) };
           };
-      counts = record { sources = sym (sum-ones n); targets = sym (sum-ones n) };
       degrees = λ p l.
           e p l ∙ sym (row-degree (rows-kept r k) (queueOf n m w′) p l ∙ rw (start-kept r k p (omega arith), start-kept r k (p + 1) (omega arith)));
     }

@@ -8,9 +8,7 @@ use Rattle.graph.specs.Range.{sum, if}
 use Rattle.graph.specs.Graph.{Graph, Group}
 use Rattle.graph.specs.Core.{Core}
 use Rattle.network.specs.declared.Totals.{Totals}
-use Rattle.network.specs.File.{groupOf}
-use Rattle.network.specs.Tables.{GroupIn}
-use Rattle.network.specs.Counts.{totals}
+use Rattle.network.specs.Groups.{groupOf, GroupIn, totals}
 use Rattle.peeling.specs.declared.Scope.{Scope}
 use Rattle.peeling.specs.Peeling.{Tabled, Kept}
 
@@ -19,8 +17,8 @@ abbrev pub atLeast : List ℕ → ℕ → ℕ → Group
 atLeast w i k u = leb k (getD w (i + u) 0)
 
 -- these entries together
-abbrev pub weightOf : List ℕ → ℕ → ℕ → ℕ → ℕ
-weightOf w i k = sum (λ u. if (atLeast w i k u) (getD w (i + u) 0))
+abbrev pub sumAtLeast : List ℕ → ℕ → ℕ → ℕ → ℕ
+sumAtLeast w i k = sum (λ u. if (atLeast w i k u) (getD w (i + u) 0))
 
 -- the groups written are the core of every graph that the table holds, and the numbers returned are theirs
 pub record CoreIn (c : Scope) (w w′ s s′ t t′ : List ℕ) (r : Totals) : Type 0 where

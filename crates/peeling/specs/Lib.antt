@@ -1,3 +1,2 @@
 pub mod Peeling
 pub mod Groups
-pub mod Climbs

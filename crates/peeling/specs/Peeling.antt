@@ -6,16 +6,19 @@ use mathlib.Core.Path.{_≡_}
 use lib.Dec.{eqb, leb, ltb}
 use lib.ListN.{length, getD, set, drop}
 use Rattle.graph.specs.Range.{sum, if}
-use Rattle.graph.specs.Graph.{Graph, Closed, Group}
+use Rattle.graph.specs.Graph.{Graph, Group}
+use Rattle.graph.specs.Shapes.{Closed}
 use Rattle.graph.specs.Linkage.{degree, Surrounds}
 use Rattle.graph.specs.Cover.{joined, need}
+use Rattle.network.specs.File.{mostMembers, mostLinks}
+use Rattle.network.specs.Refusals.{workLength}
 use Rattle.peeling.specs.declared.Peel.{Peel}
 use Rattle.peeling.specs.declared.Scope.{Scope}
 
 -- at most 2,048 vertices and 8,192 edges: every entry of the work table fits
 pub record Small (n m : ℕ) : Type 0 where
-  pub order : n ≤ 2048
-  pub size : m ≤ 8192
+  pub order : n ≤ mostMembers
+  pub size : m ≤ mostLinks
 
 -- the edges that a place needs by a scope
 abbrev pub needOf : Scope → ℕ → ℕ
@@ -47,21 +50,21 @@ unfoldable pub entries : ℕ → List ℕ → ℕ → ℕ → ℕ → ℕ
 entries n w p k q = sum (λ i. if (eqb (rowEntry n w (startOf w p + i)) q) 1) k
 
 -- the edges between places p and q: the entries of p's row that are q
-unfoldable pub links : ℕ → List ℕ → ℕ → ℕ → ℕ
-links n w p q = entries n w p (rowLength w p) q
+unfoldable pub between : ℕ → List ℕ → ℕ → ℕ → ℕ
+between n w p q = entries n w p (rowLength w p) q
 
 -- the table holds rows, in which each edge stands at both of its places
 pub record Rows (n m : ℕ) (w : List ℕ) : Type 0 where
-  pub long : 2 * m + 6 * n + 2 ≤ length w
+  pub long : workLength n m ≤ length w
   pub ascending : (p : ℕ) → p < 2 * n → startOf w p ≤ startOf w (p + 1)
   pub last : startOf w (2 * n) ≤ 2 * m
-  pub inside : (k : ℕ) → k < 2 * m → rowEntry n w k < 2 * n
-  pub symmetric : (p q : ℕ) → p < 2 * n → q < 2 * n → links n w p q ≡ links n w q p
+  pub inside : (p i : ℕ) → p < 2 * n → i < rowLength w p → rowEntry n w (startOf w p + i) < 2 * n
+  pub symmetric : (p q : ℕ) → p < 2 * n → q < 2 * n → between n w p q ≡ between n w q p
 
 -- the rows are those of the graph, in a table with room for m edges
 pub record Indexed (g : Graph) (m : ℕ) (w : List ℕ) : Type 0 where
   pub rows : Rows (g .order) m w
-  pub linked : (p q : ℕ) → p < 2 * g .order → q < 2 * g .order → links (g .order) w p q ≡ joined g p q
+  pub linked : (p q : ℕ) → p < 2 * g .order → q < 2 * g .order → between (g .order) w p q ≡ joined g p q
 
 -- The table holds the rows of the graph, which has n vertices; m is the room for edges, whatever the graph's own size. An edge of weight 0
 -- stands in no row.
@@ -87,35 +90,38 @@ pub record Queue (L : ℕ → ℕ → ℕ) (N : ℕ) (need degrees queue : ℕ �
   pub surrounds : Surrounds L N need (live queue tail)
 
 -- the sources and targets that a peel counts are those of R
-pub record Counts (n : ℕ) (R : Group) (s : Peel) : Type 0 where
+pub record Sizes (n : ℕ) (R : Group) (s : Peel) : Type 0 where
   pub sources : s .sources ≡ sum (λ p. if (R p) 1) n
   pub targets : s .targets ≡ sum (λ p. if (R (n + p)) 1) n
 
--- A peel: the places before the head are dropped, and each degree is the number of edges to places not dropped. The counts are already
--- without all that are queued.
-pub record Peeling (n m : ℕ) (need : ℕ → ℕ) (w : List ℕ) (s : Peel) : Type 0 where
+-- The rows, and the queue of the places that are short by the degrees in the table. The sizes are already without all that are queued.
+pub record Queued (n m : ℕ) (need : ℕ → ℕ) (w : List ℕ) (s : Peel) : Type 0 where
   pub rows : Rows n m w
   pub waiting : s .head ≤ s .tail
-  pub queue : Queue (links n w) (2 * n) need (degreeOf n m w) (queueOf n m w) (s .tail)
-  pub counts : Counts n (left n m w s) s
-  pub degrees : (p : ℕ) → p < 2 * n → degreeOf n m w p ≡ degree (links n w) (2 * n) (live (queueOf n m w) (s .head)) p
+  pub queue : Queue (between n w) (2 * n) need (degreeOf n m w) (queueOf n m w) (s .tail)
+  pub sizes : Sizes n (left n m w s) s
+
+-- the edges of a place to the places that are not dropped, which are those before the head
+abbrev pub undropped : ℕ → ℕ → List ℕ → Peel → ℕ → ℕ
+undropped n m w s = degree (between n w) (2 * n) (live (queueOf n m w) (s .head))
+
+-- a peel: each degree is the number of edges to places not dropped
+pub record Peeling (n m : ℕ) (need : ℕ → ℕ) (w : List ℕ) (s : Peel) : Type 0 where
+  pub queued : Queued n m need w s
+  pub degrees : (p : ℕ) → p < 2 * n → degreeOf n m w p ≡ undropped n m w s p
 
 -- A peel in the midst of dropping a place, the last one before the head, with k entries of its row passed: each degree and the entries
 -- passed are together what the degree was before, the edges to places not dropped and to this one. The queue goes by the degrees as they are.
 pub record Dropping (n m : ℕ) (need : ℕ → ℕ) (w : List ℕ) (s : Peel) (place k : ℕ) : Type 0 where
-  pub rows : Rows n m w
-  pub waiting : s .head ≤ s .tail
-  pub queue : Queue (links n w) (2 * n) need (degreeOf n m w) (queueOf n m w) (s .tail)
-  pub counts : Counts n (left n m w s) s
+  pub queued : Queued n m need w s
   pub is-place : place < 2 * n
-  pub degrees : (p : ℕ) → p < 2 * n
-      → degreeOf n m w p + entries n w place k p ≡ degree (links n w) (2 * n) (live (queueOf n m w) (s .head)) p + links n w place p
+  pub degrees : (p : ℕ) → p < 2 * n → degreeOf n m w p + entries n w place k p ≡ undropped n m w s p + between n w place p
 
 -- starts and rows are unchanged, and so is what lies past the entries that a work table needs
 pub record Kept (n m : ℕ) (w w′ : List ℕ) : Type 0 where
   pub same-length : length w′ ≡ length w
   pub index : (i : ℕ) → i < 2 * n + 1 + 2 * m → getD w′ i 0 ≡ getD w i 0
-  pub past : drop (2 * m + 6 * n + 2) w′ ≡ drop (2 * m + 6 * n + 2) w
+  pub past : drop (workLength n m) w′ ≡ drop (workLength n m) w
 
 -- a side of a peel has nobody left
 abbrev pub emptied : Peel → Bool
@@ -133,7 +139,7 @@ abbrev pub raised : (ℕ → ℕ) → (ℕ → ℕ) → ℕ → ℕ → ℕ
 raised old new i p = cond (ltb p i) (new p) (old p)
 
 -- a place can be pushed: the queue has room, and the place's own side somebody
-pub record Room (n : ℕ) (s : Peel) (place : ℕ) : Type 0 where
+pub record Pushable (n : ℕ) (s : Peel) (place : ℕ) : Type 0 where
   pub tail : s .tail < 2 * n
   pub side : 1 ≤ cond (ltb place n) (s .sources) (s .targets)
 

@@ -10,9 +10,10 @@ ghost use Prim.Native.Nat.{_+_, _<_, _≤_};
 ghost use lib.Dec.{leb};
 ghost use lib.ListN.{length, drop};
 ghost use Rattle.graph.specs.Range.{if};
-ghost use Rattle.network.specs.Tables.{bytesOf};
+ghost use Rattle.network.specs.File.{mostMembers};
+ghost use Rattle.network.specs.Groups.{bytesOf};
 ghost use Rattle.peeling.specs.Peeling.{Small, Rows};
-ghost use Rattle.peeling.specs.Groups.{atLeast, weightOf, CoreIn};
+ghost use Rattle.peeling.specs.Groups.{atLeast, sumAtLeast, CoreIn};
 
 // The byte of a member whose degree this is.
 fn byte_of(degree: u16, least: usize) -> u8
@@ -22,7 +23,7 @@ fn byte_of(degree: u16, least: usize) -> u8
 }
 
 // What a member whose degree this is counts.
-fn weight_of(degree: u16, least: usize) -> u32
+fn counted_degree(degree: u16, least: usize) -> u32
     ensures { λ r. ⌜ (r ≡ if (leb least degree) degree) × (r < 65536) ⌝ }
 {
     if least <= wide16(degree) {
@@ -44,12 +45,12 @@ pub fn write_group(work: &[u16], at: usize, n: usize, least: usize, group: &mut 
 
 // The degrees of those together.
 pub fn edges_left(work: &[u16], at: usize, n: usize, least: usize) -> u32
-    requires { ⌜ (at + n ≤ length (now work)) × (n ≤ 2048) ⌝ }
-    ensures { λ r. ⌜ r ≡ weightOf (now (work .entry)) at least n ⌝ }
+    requires { ⌜ (at + n ≤ length (now work)) × (n ≤ mostMembers) ⌝ }
+    ensures { λ r. ⌜ r ≡ sumAtLeast (now (work .entry)) at least n ⌝ }
 {
     let mut total: u32 = 0;
     for u in 0..n {
-        total += weight_of(work[at + u], least);
+        total += counted_degree(work[at + u], least);
     }
     total
 }

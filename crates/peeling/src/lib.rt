@@ -1,7 +1,5 @@
-// Cores and levels: the peel on the lent work table.
-mod climbs;
+// Cores: the peel on the lent work table, and the groups that are read off it.
 mod groups;
-mod lengths;
 mod peels;
 
 // How far a peel has come: head and tail of the queue of places that are short, and how many places of each side are not in it.
@@ -20,13 +18,5 @@ pub struct Scope {
     pub y: usize,
 }
 
-// What a climb raises: what targets need, what sources need, or both alike.
-pub enum Rise {
-    Targets,
-    Sources,
-    Both,
-}
-
-pub use climbs::climb;
 pub use groups::core_in;
-pub use lengths::longest_row;
+pub use peels::degrees_at;

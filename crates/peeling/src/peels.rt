@@ -10,7 +10,8 @@ ghost use Prim.Native.Nat.{ℕ, _+_, _-_, _*_, _<_, _≤_};
 ghost use lib.Dec.{ltb};
 ghost use lib.ListN.{length};
 ghost use Rattle.graph.specs.Cover as cover;
-ghost use Rattle.peeling.specs.Peeling.{Small, Rows, Peeling, Dropping, Kept, Ended, Room, rowLength, degreeOf, needOf, emptied, raised, pushed, withDegree, withQueued, loweredPeel, loweredTable};
+ghost use Rattle.network.specs.Refusals.{workLength};
+ghost use Rattle.peeling.specs.Peeling.{Small, Rows, Peeling, Dropping, Kept, Ended, Pushable, rowLength, degreeOf, needOf, emptied, raised, pushed, withDegree, withQueued, loweredPeel, loweredTable};
 
 // The edges that a place needs.
 pub fn need(scope: Scope, place: usize) -> usize
@@ -82,8 +83,8 @@ impl Peel {
     // The place put at the queue's tail, and so taken out of its own side.
     fn push(self, work: &mut [u16], scope: Scope, place: usize) -> Peel
         requires { ⌜ Small (scope .order) (scope .size) ⌝ }
-        requires { ⌜ 2 * scope .size + 6 * scope .order + 2 ≤ length (now work) ⌝ }
-        requires { ⌜ (place < 2 * scope .order) × Room (scope .order) self place ⌝ }
+        requires { ⌜ workLength (scope .order) (scope .size) ≤ length (now work) ⌝ }
+        requires { ⌜ (place < 2 * scope .order) × Pushable (scope .order) self place ⌝ }
         ensures { λ r. ⌜ r ≡ pushed (scope .order) self place ⌝ }
         ensures { λ _. ⌜ now (work .exit) ≡ withQueued (scope .order) (scope .size) (now (work .entry)) (self .tail) place ⌝ }
     {
@@ -169,9 +170,9 @@ impl Peel {
     // One edge of the place lost, and the place pushed where that makes it short.
     fn lower(self, work: &mut [u16], scope: Scope, place: usize) -> Peel
         requires { ⌜ Small (scope .order) (scope .size) ⌝ }
-        requires { ⌜ 2 * scope .size + 6 * scope .order + 2 ≤ length (now work) ⌝ }
+        requires { ⌜ workLength (scope .order) (scope .size) ≤ length (now work) ⌝ }
         requires { ⌜ (place < 2 * scope .order) × (1 ≤ degreeOf (scope .order) (scope .size) (now work) place) ⌝ }
-        requires { ⌜ (degreeOf (scope .order) (scope .size) (now work) place ≡ needOf scope place → Room (scope .order) self place) ⌝ }
+        requires { ⌜ (degreeOf (scope .order) (scope .size) (now work) place ≡ needOf scope place → Pushable (scope .order) self place) ⌝ }
         ensures { λ r. ⌜ r ≡ loweredPeel (scope .order) (scope .size) (needOf scope) (now (work .entry)) self place ⌝ }
         ensures { λ _. ⌜ now (work .exit) ≡ loweredTable (scope .order) (scope .size) (needOf scope) (now (work .entry)) self place ⌝ }
     {

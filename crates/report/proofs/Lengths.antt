@@ -8,9 +8,10 @@ use native.Mathlib.Omega.{arith}
 use lib.ListN.{length, length-append}
 use Rattle.graph.specs.Range.{flat}
 use Rattle.network.specs.declared.Refusal.{Refusal}
-use Rattle.network.specs.File.{groupOf}
+use Rattle.network.specs.Groups.{groupOf}
 use Rattle.report.specs.declared.Numbers.{Numbers}
-use Rattle.report.specs.Text.{ascii, spaced, label, newline, namesLink, linkText, refusalText, labelsText, numbersText, memberText, membersText, groupText, reportText, longestRefusal, longestReport}
+use Rattle.report.specs.Text.{ascii, spaced, label, newline, linkText, refusalText, labelsText, numbersText, memberText, membersText, groupText, reportText, longestRefusal, longestReport}
+use Rattle.network.specs.File.{namesLink}
 use Rattle.report.proofs.Decimal.{decimal-length}
 
 -- a label with a number of 64 bits

@@ -7,7 +7,8 @@ use native.Mathlib.Numerals.{add-one}
 use native.Mathlib.Omega.{arith}
 use lib.ListN.{length, getD, set, take, drop, length-append, take-append-drop}
 use lib.Seq.{take-at, drop-at, drop-drop, length-take-le, take-length, paste, paste-suc}
-use Rattle.report.specs.Put.{Put, Begins}
+use Rattle.report.specs.Put.{Put}
+use Rattle.report.specs.Text.{Begins}
 
 -- to lay nothing changes nothing
 pub put-none : (d : List ℕ) (at : ℕ) → Put d at [] d at

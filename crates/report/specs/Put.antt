@@ -3,7 +3,6 @@ use Prim.Native.Nat.{ℕ, _+_, _≤_}
 use mathlib.Core.List.{List, _++_}
 use mathlib.Core.Path.{_≡_}
 use lib.ListN.{length, take, drop}
-use Rattle.io.specs.Counts.{Counts}
 
 -- the text has room in the buffer at this place
 abbrev pub Room : List ℕ → ℕ → List ℕ → Type 0
@@ -13,10 +12,3 @@ Room out at text = at + length text ≤ length out
 pub record Put (before : List ℕ) (at : ℕ) (text after : List ℕ) (next : ℕ) : Type 0 where
   pub laid : after ≡ take at before ++ text ++ drop (at + length text) before
   pub past : next ≡ at + length text
-
--- `after` is the buffer `before` with the text at its start and all else as it was, and r is the length of the text
-pub record Begins (before text after : List ℕ) (r : ℕ) : Type 0 where
-  pub laid : after ≡ text ++ drop (length text) before
-  pub size : r ≡ length text
-  -- so r counts bytes of the buffer: for a caller that writes them out
-  pub counts : Counts r after

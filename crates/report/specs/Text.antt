@@ -2,12 +2,16 @@
 use Prim.Native.Char.{code}
 use Prim.Native.Nat.{ℕ, zero, suc, _+_, _/_, _%_}
 use Prim.Native.String.{String, [] as []ᵗ, _∷_ as _∷ᵗ_}
-use mathlib.Core.Bool.{Bool, cond, _||_}
+use mathlib.Core.Bool.{cond}
 use mathlib.Core.List.{List, [], _∷_, _++_}
-use lib.Dec.{eqb, ltb}
+use mathlib.Core.Path.{_≡_}
+use lib.Dec.{ltb}
+use lib.ListN.{length, drop}
+use Rattle.io.specs.Counts.{Counts}
 use Rattle.graph.specs.Range.{flat}
 use Rattle.network.specs.declared.Refusal.{Refusal}
-use Rattle.network.specs.File.{groupOf}
+use Rattle.network.specs.File.{namesLink}
+use Rattle.network.specs.Groups.{groupOf}
 use Rattle.report.specs.declared.Numbers.{Numbers}
 
 -- the bytes of a text in ASCII
@@ -35,10 +39,6 @@ label word n = word ++ spaced n
 -- the end of a line
 abbrev pub newline : List ℕ
 newline = ascii "\n"
-
--- 01: the refusals for which a link's number is returned
-abbrev pub namesLink : ℕ → Bool
-namesLink number = eqb number 7 || eqb number 8
 
 -- 01: the link of a refusal that names one
 unfoldable pub linkText : Refusal → List ℕ
@@ -81,3 +81,10 @@ longestRefusal = 23
 -- nor any report of up to 2,048 members: six numbers of 20 digits, and each member, of four, in both groups
 abbrev pub longestReport : ℕ
 longestReport = 20643
+
+-- `after` is the buffer `before` with the text at its start and all else as it was, and r is the length of the text
+pub record Begins (before text after : List ℕ) (r : ℕ) : Type 0 where
+  pub laid : after ≡ text ++ drop (length text) before
+  pub size : r ≡ length text
+  -- so r counts bytes of the buffer: for a caller that writes them out
+  pub counts : Counts r after

@@ -2,23 +2,12 @@
 use crate::pieces::put_bytes;
 use crate::pieces::put_label;
 use network::Refusal;
+use network::names_link;
+use network::wide16;
 ghost use Prim.Native.Nat.{_≤_};
-ghost use mathlib.Core.Path.{_≡_};
 ghost use lib.ListN.{length};
-ghost use Rattle.report.specs.Put.{Put, Room, Begins};
-ghost use Rattle.report.specs.Text.{namesLink, linkText, refusalText, longestRefusal};
-
-fn wide16(x: u16) -> usize
-    ensures { λ r. ⌜ r ≡ x ⌝ }
-{
-    x as usize
-}
-
-fn names_link(number: u16) -> bool
-    ensures { λ r. ⌜ r ≡ namesLink number ⌝ }
-{
-    number == 7 || number == 8
-}
+ghost use Rattle.report.specs.Put.{Put, Room};
+ghost use Rattle.report.specs.Text.{Begins, linkText, refusalText, longestRefusal};
 
 // The link, where the refusal names one.
 fn put_link(refusal: Refusal, out: &mut [u8], at: usize) -> usize

@@ -5,8 +5,9 @@ use crate::pieces::put_label;
 use crate::pieces::put_spaced;
 ghost use Prim.Native.Nat.{_≤_, _<_};
 ghost use lib.ListN.{length};
-ghost use Rattle.report.specs.Put.{Put, Room, Begins};
-ghost use Rattle.report.specs.Text.{labelsText, numbersText, memberText, membersText, groupText, reportText, longestReport};
+ghost use Rattle.network.specs.File.{mostMembers};
+ghost use Rattle.report.specs.Put.{Put, Room};
+ghost use Rattle.report.specs.Text.{Begins, labelsText, numbersText, memberText, membersText, groupText, reportText, longestReport};
 
 // A line of three labels.
 fn put_labels(
@@ -81,7 +82,7 @@ fn put_group(letter: &[u8], group: &[u8], n: usize, out: &mut [u8], at: usize) -
 
 // Lays the report at the start of the buffer, and answers its length. The groups are tables of n bytes or more: 1 in, 0 out.
 pub fn put_report(numbers: Numbers, s: &[u8], t: &[u8], n: usize, out: &mut [u8]) -> usize
-    requires { ⌜ n ≤ 2048 ⌝ }
+    requires { ⌜ n ≤ mostMembers ⌝ }
     requires { ⌜ (n ≤ length (now s)) × (n ≤ length (now t)) ⌝ }
     requires { ⌜ longestReport ≤ length (now out) ⌝ }
     ensures { λ r. ⌜ Begins (now (out .entry)) (reportText numbers (now (s .entry)) (now (t .entry)) n) (now (out .exit)) r ⌝ }

@@ -9,9 +9,9 @@ use native.Mathlib.Omega.{arith}
 use borrow.Author.Tests.{le-ltb}
 use lib.ListN.{length}
 use Rattle.network.specs.declared.Refusal.{Refusal}
-use Rattle.network.specs.File.{graphOf, none, fileRefusal}
+use Rattle.network.specs.File.{mostMembers, mostLinks, graphOf, none, fileRefusal}
 use Rattle.network.specs.Refusals.{workLength, findingRefusal}
-use Rattle.network.specs.Sides.{Sound}
+use Rattle.network.specs.Accepted.{Sound}
 use Rattle.network.specs.Calls.{refused, accepted}
 use Rattle.network.proofs.Accepted.{file-proper}
 use Rattle.network.proofs.Accepted as file
@@ -21,12 +21,12 @@ use Rattle.finding.specs.declared.FindingAnswer.{FindingAnswer}
 use Rattle.finding.specs.declared.FindingAnswer.the-variants.{Found, Refused}
 use Rattle.finding.specs.Findings.{FindingTold, FindingCall}
 use Rattle.finding.proofs.FindingCalls.{finding-sound}
-use Rattle.report.specs.Text.{refusalText, reportText}
-use Rattle.report.specs.Put.{Begins}
-use Rattle.vouch_report.specs.Printed.{numbersOf, printedRefusal, Laid}
+use Rattle.report.specs.Text.{refusalText, reportText, Begins}
+use Rattle.vouch_report.specs.Printed.{printedRefusal, Rendered}
+use Rattle.vouch_report.specs.Parts.{refusalOf, numbersOf}
 
 -- tables for the largest file are long enough for every file, so that the finding is refused as the program says
-pub finding-full : (f : List ℕ) → findingRefusal f 2048 2048 28674 ≡ printedRefusal f
+pub finding-full : (f : List ℕ) → findingRefusal f mostMembers mostMembers (workLength mostMembers mostLinks) ≡ printedRefusal f
 unfolding findingRefusal printedRefusal
 finding-full f =
     elim (decLe (fileRefusal f .number) 0) [
@@ -34,14 +34,14 @@ finding-full f =
       | yes z ↦ let e = file-proper f .number-none (omega (arith, z)) in
           let a = file.accepted f .0 e in
           orElse-second _ e ∙ rw (
-            le-ltb 2048 (graphOf f .order) (a .order-most),
-            le-ltb 28674 (workLength (graphOf f)) (omega (arith, a .order-most, a .size-most)),
+            le-ltb mostMembers (graphOf f .order) (omega (arith, a .sound .header)),
+            le-ltb (workLength mostMembers mostLinks) (workLength (graphOf f .order) (graphOf f .size)) (omega (arith, a .sound .header)),
           ) (sym (orElse-second _ e))
     ]
 
 -- the lengths of the program's tables
 abbrev pub Full : List ℕ → List ℕ → List ℕ → Type 0
-Full s t w = (length s ≡ 2048) × (length t ≡ 2048) × (length w ≡ 28674)
+Full s t w = (length s ≡ mostMembers) × (length t ≡ mostMembers) × (length w ≡ workLength mostMembers mostLinks)
 
 module _ {f s s′ t t′ w w′ : List ℕ} {a : FindingAnswer} (z : Full s t w) (c : FindingCall f s s′ t t′ w w′ a) where
   -- in them the call is refused as the program says
@@ -49,13 +49,14 @@ module _ {f s s′ t t′ w w′ : List ℕ} {a : FindingAnswer} (z : Full s t w
   call-refusal = rw (z .0, z .1, z .2) (finding-full f)
 
   -- a refused finding: its line is printed
-  pub laid-refused : {before after : List ℕ} {r : ℕ} (q : Refusal) → a ≡ Refused q → Begins before (refusalText q) after r → Laid f before after r
-  laid-refused q i b = elim (c .call) [
+  pub rendered-refused : {before after : List ℕ} {r : ℕ} (q : Refusal) → a ≡ Refused q → {p : Refusal} → p ≡ refusalOf a → Begins before (refusalText p) after r → Rendered f before after r
+  rendered-refused q i {p} e b = elim (c .call) [
     | refused n j k ↦
-        let same : q ≡ findingRefusal f (length s) (length t) (length w) = cc in
+        let told : q ≡ findingRefusal f (length s) (length t) (length w) = cc in
+        let same : p ≡ printedRefusal f = e ∙ ap refusalOf i ∙ told ∙ call-refusal in
         record {
-          text = refusalText q;
-          prints = record { refused = λ h. ap refusalText (same ∙ call-refusal); accepted = λ h. absurd (refusal-some n (call-refusal ∙ h)) };
+          text = refusalText p;
+          prints = record { refused = λ h. ap refusalText same; accepted = λ h. absurd (refusal-some n (call-refusal ∙ h)) };
           begins = b;
         }
     | accepted v n j d ↦ absurd (let x : _≡_ {A = ℕ} 0 1 = cc in omega arith)
@@ -73,8 +74,8 @@ module _ {f s s′ t t′ w w′ : List ℕ} {a : FindingAnswer} (z : Full s t w
   found-sound g i = finding-sound f _ _ _ (found-told g i .0)
 
   -- and its report is printed
-  pub laid-found : {before after : List ℕ} {r : ℕ} (g : Ring) → a ≡ Found g → {n : ℕ} → n ≡ graphOf f .order → Begins before (reportText (numbersOf g) s′ t′ n) after r → Laid f before after r
-  laid-found g i {n} e b =
+  pub rendered-found : {before after : List ℕ} {r : ℕ} (g : Ring) → a ≡ Found g → {n : ℕ} → n ≡ graphOf f .order → Begins before (reportText (numbersOf g) s′ t′ n) after r → Rendered f before after r
+  rendered-found g i {n} e b =
       let (h, d) = found-told g i in
       record {
         text = reportText (numbersOf g) s′ t′ n;

@@ -8,24 +8,11 @@ use lib.Dec.{eqb}
 use Rattle.graph.specs.Graph.{card, edges}
 use Rattle.graph.specs.Core.{EqualLevel, Finding}
 use Rattle.network.specs.declared.Refusal.{Refusal}
-use Rattle.network.specs.File.{graphOf, groupOf, none, plain, fileRefusal}
+use Rattle.network.specs.File.{graphOf, none, plain, fileRefusal}
+use Rattle.network.specs.Groups.{groupOf}
 use Rattle.network.specs.Refusals.{orElse}
-use Rattle.finding.specs.declared.Ring.{Ring}
 use Rattle.report.specs.declared.Numbers.{Numbers}
-use Rattle.report.specs.Text.{refusalText, reportText}
-use Rattle.report.specs.Put.{Begins}
-
--- the numbers of a report are those of the finding
-abbrev pub numbersOf : Ring → Numbers
-numbersOf r =
-    record {
-      x = r .x;
-      y = r .y;
-      equal = r .equal;
-      edges = r .totals .edges;
-      sources = r .totals .sources;
-      targets = r .totals .targets;
-    }
+use Rattle.report.specs.Text.{refusalText, reportText, Begins}
 
 -- the refusal that is printed: the file's, or 13
 unfoldable pub printedRefusal : List ℕ → Refusal
@@ -47,7 +34,7 @@ pub record Prints (f text : List ℕ) : Type 0 where
   pub accepted : printedRefusal f ≡ none → Reports f text
 
 -- what is to be printed stands at the start of the buffer, and r is its length
-pub record Laid (f before after : List ℕ) (r : ℕ) : Type 0 where
+pub record Rendered (f before after : List ℕ) (r : ℕ) : Type 0 where
   pub text : List ℕ
   pub prints : Prints f text
   pub begins : Begins before text after r

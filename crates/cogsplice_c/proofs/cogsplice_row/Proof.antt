@@ -2,9 +2,6 @@
 use borrow.Author.Needs.{needs}
 use Rattle.cogsplice_c.proofs.cogsplice_row.Statement.{statement}
 use Rattle.cogsplice_c.proofs.cogsplice_row.Tie as tie
-use Rattle.cogsplice_c.proofs.cogsplice_row.Reads as reads
-use Rattle.cogsplice_c.proofs.cogsplice_row.Lts as lts
-use Rattle.cogsplice_c.proofs.rows.part_of.Reads as part-of-reads
 
 part-of-requires : tie.Need-part-of-requires
 part-of-requires c κs = search needs

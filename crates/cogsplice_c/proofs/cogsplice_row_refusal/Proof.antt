@@ -2,10 +2,6 @@
 use borrow.Author.Needs.{needs}
 use Rattle.cogsplice_c.proofs.cogsplice_row_refusal.Statement.{statement}
 use Rattle.cogsplice_c.proofs.cogsplice_row_refusal.Tie as tie
-use Rattle.cogsplice_c.proofs.cogsplice_row_refusal.Reads as reads
-use Rattle.cogsplice_c.proofs.cogsplice_row_refusal.Lts as lts
-use Rattle.adjacency.proofs.row_refusal.Reads as row-refusal-reads
-use Rattle.cogsplice_c.proofs.side_of.Reads as side-of-reads
 
 side-of-requires : tie.Need-side-of-requires
 side-of-requires c κs = search needs

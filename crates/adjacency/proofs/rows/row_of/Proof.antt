@@ -13,8 +13,8 @@ accepted : (c : tie.Else1)
     → Row (now (c .before .before .before .before .args .starts)) (now (c .before .before .before .before .args .rows)) (c .before .before .before .before .args .member)
 accepted c = accepted-row _ _ _ (omega arith)
 
-refusal-of-requires : tie.Need-refusal-of-requires
-refusal-of-requires c κs = search needs
+row-number-requires : tie.Need-row-number-requires
+row-number-requires c κs = search needs
 
 sub-result : tie.Need-sub-result
 sub-result c = search needs
@@ -29,7 +29,7 @@ returns : tie.Need-returns
 returns c =
     record {
       refused = λ h. refl;
-      accepted = λ h. absurd (c .before .if1 .taken (c .before .before .refusal-of .ensures ∙ ap (λ r. r .number) h));
+      accepted = λ h. absurd (c .before .if1 .taken (c .before .before .row-number .ensures ∙ ap (λ r. r .number) h));
     }
 
 mul-wide16 : tie.Need-mul-wide16
@@ -76,7 +76,7 @@ pub row-of-spec : {M : Type 1} → statement M
 row-of-spec =
     tie.close
     (tie.spec
-    refusal-of-requires
+    row-number-requires
     sub-result
     part-result-start
     part-result-end

@@ -2,8 +2,8 @@
 use mathlib.Core.Path.{_≡_, refl}
 use native.Mathlib.Omega.{arith}
 use Rattle.network.specs.File.{none, fileRefusal}
-use Rattle.network.proofs.Accepted.{Accepted, accepted}
-use Rattle.network.proofs.Headers.{found-none}
+use Rattle.network.specs.Accepted.{Accepted}
+use Rattle.network.proofs.Accepted.{accepted, found-none}
 use Rattle.network.specs.Calls as call
 use Rattle.network.proofs.Answers.{call-refused}
 use borrow.Author.Needs.{needs}
@@ -24,15 +24,15 @@ gives-none c = found-none _ (c .before .before .file-refusal .ensures) (c .if1 .
 accept : (c : tie.Else1) → Accepted (c .before .before .before .before .args .file .now)
 accept c = accepted _ .0 (gives-none c)
 
-u16-at-requires : tie.Need-u16-at-requires
-u16-at-requires c κs = omega (arith, accept c .long)
+order-of-requires : tie.Need-order-of-requires
+order-of-requires c κs = omega (arith, accept c .sound .header .long)
 
-u16-at-requires-2 : tie.Need-u16-at-requires-2
-u16-at-requires-2 c κs = omega (arith, accept (c .before) .long)
+size-of-requires : tie.Need-size-of-requires
+size-of-requires c κs = omega (arith, accept (c .before) .sound .header .long)
 
 returns-2 : tie.Need-returns-2
-returns-2 c = call.accepted (c .before .u16-at .result, c .u16-at2 .result) (gives-none (c .before .before)) refl (c .before .u16-at .ensures .0, c .u16-at2 .ensures .0)
+returns-2 c = call.accepted (c .before .order-of .result, c .size-of .result) (gives-none (c .before .before)) refl (c .before .order-of .ensures .0, c .size-of .ensures .0)
 
 pub check-spec : {M : Type 1} → statement M
 check-spec =
-    tie.close (tie.spec file-refusal-requires returns u16-at-requires u16-at-requires-2 returns-2)
+    tie.close (tie.spec file-refusal-requires returns order-of-requires size-of-requires returns-2)

@@ -3,10 +3,6 @@ use native.Mathlib.Omega.{arith}
 use borrow.Author.Needs.{needs}
 use Rattle.calls.proofs.checks.file_refusal.Statement.{statement}
 use Rattle.calls.proofs.checks.file_refusal.Tie as tie
-use Rattle.calls.proofs.checks.file_refusal.Reads as reads
-use Rattle.calls.proofs.checks.file_refusal.Lts as lts
-use Rattle.calls.proofs.checks.front_state.Reads as front-state-reads
-use Rattle.calls.proofs.checks.repeat_refusal.Reads as repeat-refusal-reads
 
 front-state-requires : tie.Need-front-state-requires
 front-state-requires c κs = search needs

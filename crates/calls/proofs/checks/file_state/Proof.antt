@@ -1,14 +1,10 @@
 -- `file_state` gives what can be told without an order, and of other files 8 or none, which leaves their order.
-use mathlib.Core.Bool.{true, false, false≢true}
+use mathlib.Core.Bool.{false≢true}
 use mathlib.Core.Path.{refl, sym, _∙_}
 use Rattle.network.proofs.Answers.{refusal-some}
 use borrow.Author.Needs.{needs}
 use Rattle.calls.proofs.checks.file_state.Statement.{statement}
 use Rattle.calls.proofs.checks.file_state.Tie as tie
-use Rattle.calls.proofs.checks.file_state.Reads as reads
-use Rattle.calls.proofs.checks.file_state.Lts as lts
-use Rattle.calls.proofs.checks.front_state.Reads as front-state-reads
-use Rattle.calls.proofs.checks.repeat_refusal.Reads as repeat-refusal-reads
 
 front-state-requires : tie.Need-front-state-requires
 front-state-requires c κs = search needs

@@ -3,10 +3,6 @@ use native.Mathlib.Omega.{arith}
 use borrow.Author.Needs.{needs}
 use Rattle.calls.proofs.checks.first_repeat.Statement.{statement}
 use Rattle.calls.proofs.checks.first_repeat.Tie as tie
-use Rattle.calls.proofs.checks.first_repeat.Reads as reads
-use Rattle.calls.proofs.checks.first_repeat.Lts as lts
-use Rattle.calls.proofs.checks.least_repeat.Reads as least-repeat-reads
-use Rattle.ordering.proofs.order.Reads as order-reads
 
 order-requires : tie.Need-order-requires
 order-requires c κs = search needs

@@ -2,29 +2,25 @@
 use Prim.Native.Nat.{ℕ}
 use mathlib.Core.Bool.{Bool, true, false, false≢true}
 use mathlib.Core.Logic.{_≢_}
-use mathlib.Core.Path.{_≡_, refl, sym, ap, _∙_}
+use mathlib.Core.Path.{_≡_, sym, ap, _∙_}
 use native.Mathlib.Omega.{arith}
 use Rattle.graph.proofs.Ranges.{first-le}
+use Rattle.graph.proofs.Ascending.{ascending-simple}
 use Rattle.network.specs.declared.Refusal.{Refusal}
-use Rattle.network.specs.File.{graphOf, outside, at}
-use Rattle.network.specs.Checks.{Header}
+use Rattle.network.specs.File.{graphOf, at}
+use Rattle.network.specs.Accepted.{Header, Sound}
 use Rattle.network.proofs.Accepted.{repeat-simple}
-use Rattle.network.proofs.Compare.{names-outside}
-use Rattle.network.proofs.Headers.{gives-7, gives-0, header-sound}
-use Rattle.network.proofs.Repeats.{ascending-simple}
+use Rattle.calls.proofs.Compare.{names-outside}
+use Rattle.calls.proofs.Headers.{gives-7, gives-0, header-sound}
 use borrow.Author.Needs.{needs}
 use Rattle.calls.proofs.checks.front_state.Statement.{statement}
 use Rattle.calls.proofs.checks.front_state.Tie as tie
-use Rattle.calls.proofs.checks.front_state.Reads as reads
-use Rattle.calls.proofs.checks.front_state.Lts as lts
-use Rattle.calls.proofs.checks.first_outside.Reads as first-outside-reads
-use Rattle.calls.proofs.checks.header_number.Reads as header-number-reads
-use Rattle.calls.proofs.checks.is_ascending.Reads as is-ascending-reads
-use Rattle.calls.proofs.checks.unordered.Reads as unordered-reads
-use Rattle.network.proofs.u16_at.Reads as u16-at-reads
 
 header-number-requires : tie.Need-header-number-requires
 header-number-requires c κs = search needs
+
+plain-requires : tie.Need-plain-requires
+plain-requires c κs = search needs
 
 unordered-requires : tie.Need-unordered-requires
 unordered-requires c κs = search needs
@@ -39,20 +35,23 @@ refused k l n p z = absurd (n (ap (λ t. t .number) (sym p) ∙ z))
 
 returns : tie.Need-returns
 returns c =
-    let u = c .unordered .ensures in (
-      (λ n. u .0 ∙ sym (c .before .before .header-number .ensures .refused (c .before .if1 .taken))),
-      (untold (u .1), refused _ _ (c .before .if1 .taken) (u .0)),
-    )
+    let u = c .unordered .ensures in
+    let e = u .0 ∙ c .before .plain .ensures in
+    let n = c .before .before in
+    ((λ h. e ∙ sym (n .before .header-number .ensures .refused (n .if1 .taken))), (untold (u .1), refused _ _ (n .if1 .taken) e))
 
 -- the header is in order
 header : (c : tie.Else1) → Header (c .before .before .before .args .file .now)
 header c = c .before .header-number .ensures .accepted (c .if1 .left)
 
-u16-at-requires : tie.Need-u16-at-requires
-u16-at-requires c κs = omega (arith, header c .long)
+size-of-requires : tie.Need-size-of-requires
+size-of-requires c κs = omega (arith, header c .long)
 
 first-outside-requires : tie.Need-first-outside-requires
 first-outside-requires c κs = header (c .before)
+
+at-requires : tie.Need-at-requires
+at-requires c κs = search needs
 
 unordered-requires-2 : tie.Need-unordered-requires-2
 unordered-requires-2 c κs = search needs
@@ -60,31 +59,38 @@ unordered-requires-2 c κs = search needs
 returns-2 : tie.Need-returns-2
 returns-2 c =
     let u = c .unordered2 .ensures in
-    let o = c .before .before in
+    let e = u .0 ∙ c .before .at .ensures in
+    let o = c .before .before .before in
     let b = o .before in (
-      (λ n. u .0 ∙ gives-7 (o .first-outside .result) (header (b .before)) (o .first-outside .ensures) (omega (arith, b .u16-at .ensures, c .before .if2 .taken))),
-      (untold (u .1), refused 7 _ (omega arith) (u .0)),
+      (λ n. e ∙ gives-7 (o .first-outside .result) (header (b .before)) (o .first-outside .ensures) (omega (arith, b .size-of .ensures, c .before .before .if2 .taken))),
+      (untold (u .1), refused 7 _ (omega arith) e),
     )
 
 -- no edge is outside
-inside : (c : tie.Else2) → let g = graphOf (c .before .before .before .before .before .before .args .file .now) in outside g ≡ g .size
-inside c =
+sound : (c : tie.Else2) → Sound (c .before .before .before .before .before .before .args .file .now)
+sound c =
     let b = c .before .before in
     let g = graphOf (b .before .before .before .before .args .file .now) in
-    omega (arith, c .before .first-outside .ensures, b .u16-at .ensures, c .if2 .left, first-le (names-outside g) (g .size))
+    header-sound (header (b .before)) (omega (arith, c .before .first-outside .ensures, b .size-of .ensures, c .if2 .left, first-le (names-outside g) (g .size)))
 
 is-ascending-requires : tie.Need-is-ascending-requires
-is-ascending-requires c κs = header-sound (header (c .before .before .before)) (inside c)
+is-ascending-requires c κs = sound c
+
+none-requires : tie.Need-none-requires
+none-requires c κs = search needs
 
 returns-3 : tie.Need-returns-3
 returns-3 c =
-    let d = c .before .before in
-    let b = d .before .before in
-    let g = graphOf (b .before .before .before .before .args .file .now) in
-    let ascending = c .before .is-ascending .ensures (c .if3 .taken) in (
-      (λ n. absurd (n refl)),
-      ((λ h. (ascending, gives-0 (header (b .before)) (inside d) (omega (arith, repeat-simple g .1 (ascending-simple g ascending))))), (λ z. (header (b .before), inside d))),
+    let t = c .before in
+    let d = t .before .before in
+    let g = graphOf (d .before .before .before .before .before .before .args .file .now) in
+    let ascending = t .before .is-ascending .ensures (t .if3 .taken) in (
+      (λ n. absurd (n (ap (λ r. r .number) (c .none .ensures)))),
+      ((λ h. (ascending, c .none .ensures ∙ gives-0 (sound d) (omega (arith, repeat-simple g .1 (ascending-simple g ascending))))), (λ z. sound d)),
     )
+
+none-requires-2 : tie.Need-none-requires-2
+none-requires-2 c κs = search needs
 
 unordered-requires-3 : tie.Need-unordered-requires-3
 unordered-requires-3 c κs = search needs
@@ -92,21 +98,24 @@ unordered-requires-3 c κs = search needs
 returns-4 : tie.Need-returns-4
 returns-4 c =
     let u = c .unordered3 .ensures in
-    let d = c .before .before .before in
-    ((λ n. absurd (n (ap (λ t. t .number) (u .0)))), (untold (u .1), (λ z. (header (d .before .before .before), inside d))))
+    ((λ n. absurd (n (ap (λ r. r .number) (u .0 ∙ c .before .none2 .ensures)))), (untold (u .1), (λ z. sound (c .before .before .before .before))))
 
 pub front-state-spec : {M : Type 1} → statement M
 front-state-spec =
     tie.close
     (tie.spec
     header-number-requires
+    plain-requires
     unordered-requires
     returns
-    u16-at-requires
+    size-of-requires
     first-outside-requires
+    at-requires
     unordered-requires-2
     returns-2
     is-ascending-requires
+    none-requires
     returns-3
+    none-requires-2
     unordered-requires-3
     returns-4)

@@ -5,15 +5,11 @@ use mathlib.Core.Path.{_≡_, sym, _∙_}
 use native.Mathlib.Decide.{decLe}
 use borrow.Author.Tests.{not-false}
 use Rattle.network.specs.File.{graphOf}
-use Rattle.network.specs.Checks.{ascends}
+use Rattle.graph.specs.Order.{ascends}
 use native.Mathlib.Omega.{arith}
 use borrow.Author.Needs.{needs}
 use Rattle.calls.proofs.checks.is_ascending.Statement.{statement}
 use Rattle.calls.proofs.checks.is_ascending.Tie as tie
-use Rattle.calls.proofs.checks.is_ascending.Reads as reads
-use Rattle.calls.proofs.checks.is_ascending.Lts as lts
-use Rattle.calls.proofs.checks.is_before.Reads as is-before-reads
-use Rattle.network.proofs.u16_at.Reads as u16-at-reads
 
 abbrev Inv-loop : tie.InvT-loop
 Inv-loop file size e₀ e = (1 ≤ e) × ((d : ℕ) → suc d < e → ascends (graphOf file) d (suc d) ≡ true)
@@ -21,8 +17,8 @@ Inv-loop file size e₀ e = (1 ≤ e) × ((d : ℕ) → suc d < e → ascends (g
 abbrev μ-loop : tie.MeasureT-loop
 μ-loop file size e₀ e = size - e
 
-u16-at-requires : tie.Need-u16-at-requires Inv-loop μ-loop
-u16-at-requires c κs = search needs
+size-of-requires : tie.Need-size-of-requires Inv-loop μ-loop
+size-of-requires c κs = search needs
 
 loop-holds : tie.Need-loop-holds Inv-loop μ-loop
 loop-holds c = (search needs, λ d l. absurd (omega arith))
@@ -56,7 +52,7 @@ loop-again c =
     )
 
 returns-2 : tie.Need-returns-2 Inv-loop μ-loop
-returns-2 c h d l = c .before .loop .inv .1 d (omega (arith, c .before .before .u16-at .ensures))
+returns-2 c h d l = c .before .loop .inv .1 d (omega (arith, c .before .before .size-of .ensures))
 
 pub is-ascending-spec : {M : Type 1} → statement M
 is-ascending-spec =
@@ -64,7 +60,7 @@ is-ascending-spec =
     (tie.spec
     Inv-loop
     μ-loop
-    u16-at-requires
+    size-of-requires
     loop-holds
     sub-is-before
     is-before-requires

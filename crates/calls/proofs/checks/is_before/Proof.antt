@@ -2,13 +2,10 @@
 use native.Mathlib.Nat.{le-antisymm}
 use Rattle.graph.specs.Graph.{Graph}
 use Rattle.network.specs.File.{graphOf}
-use Rattle.network.proofs.Compare.{ascends-less, ascends-more, ascends-target}
+use Rattle.calls.proofs.Compare.{ascends-less, ascends-more, ascends-target}
 use borrow.Author.Needs.{needs}
 use Rattle.calls.proofs.checks.is_before.Statement.{statement}
 use Rattle.calls.proofs.checks.is_before.Tie as tie
-use Rattle.calls.proofs.checks.is_before.Reads as reads
-use Rattle.calls.proofs.checks.is_before.Lts as lts
-use Rattle.network.proofs.end_at.Reads as end-at-reads
 
 end-at-requires : tie.Need-end-at-requires
 end-at-requires c κs = search needs

@@ -1,12 +1,9 @@
 -- `is_same` compares the sources and then the targets.
 use Rattle.network.specs.File.{graphOf}
-use Rattle.network.proofs.Compare.{same-other, same-target}
+use Rattle.calls.proofs.Compare.{same-other, same-target}
 use borrow.Author.Needs.{needs}
 use Rattle.calls.proofs.checks.is_same.Statement.{statement}
 use Rattle.calls.proofs.checks.is_same.Tie as tie
-use Rattle.calls.proofs.checks.is_same.Reads as reads
-use Rattle.calls.proofs.checks.is_same.Lts as lts
-use Rattle.network.proofs.end_at.Reads as end-at-reads
 
 end-at-requires : tie.Need-end-at-requires
 end-at-requires c κs = search needs

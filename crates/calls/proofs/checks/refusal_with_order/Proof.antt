@@ -2,19 +2,13 @@
 use mathlib.Core.Path.{_∙_}
 use native.Mathlib.Omega.{arith}
 use Rattle.network.specs.File.{graphOf}
-use Rattle.network.specs.Sides.{Sound}
-use Rattle.network.proofs.Accepted.{accepted}
+use Rattle.network.specs.Accepted.{Sound}
+use Rattle.graph.proofs.Ascending.{ascending-sorted}
+use Rattle.network.proofs.Accepted.{found-accepted}
 use Rattle.network.proofs.Answers.{refusal-some}
-use Rattle.network.proofs.Headers.{accepted-sound, found-none}
-use Rattle.ordering.proofs.Standing.{ascending-sorted}
 use borrow.Author.Needs.{needs}
 use Rattle.calls.proofs.checks.refusal_with_order.Statement.{statement}
 use Rattle.calls.proofs.checks.refusal_with_order.Tie as tie
-use Rattle.calls.proofs.checks.refusal_with_order.Reads as reads
-use Rattle.calls.proofs.checks.refusal_with_order.Lts as lts
-use Rattle.calls.proofs.checks.file_state.Reads as file-state-reads
-use Rattle.network.proofs.u16_at.Reads as u16-at-reads
-use Rattle.ordering.proofs.count_up.Reads as count-up-reads
 
 file-state-requires : tie.Need-file-state-requires
 file-state-requires c κs = search needs
@@ -29,16 +23,16 @@ returns c =
 
 -- every edge of a file that is not refused can be read
 sound : (c : tie.Else1) → Sound (c .before .before .before .before .before .before .before .before .before .args .file .now)
-sound c = accepted-sound (accepted _ .0 (found-none _ (c .before .before .before .before .before .file-state .ensures .0) (c .if1 .left)))
+sound c = found-accepted _ (c .before .before .before .before .before .file-state .ensures .0) (c .if1 .left) .sound
 
-u16-at-requires : tie.Need-u16-at-requires
-u16-at-requires c κs = omega (arith, sound (c .before) .exact)
+size-of-requires : tie.Need-size-of-requires
+size-of-requires c κs = omega (arith, sound (c .before) .header)
 
 count-up-requires : tie.Need-count-up-requires
 count-up-requires c κs =
     let b = c .before .before .before in
     let f = b .before .before .before .before .before in
-    omega (arith, sound b .size-most, c .before .u16-at .ensures, f .file-state .ensures .1 .1 .1, f .before .before .before .before .pre)
+    omega (arith, sound b .header, c .before .size-of .ensures, f .file-state .ensures .1 .1 .1, f .before .before .before .before .pre)
 
 same-length-2 : tie.Need-same-length-2
 same-length-2 c = search needs
@@ -52,7 +46,7 @@ returns-2 c =
     let g = graphOf (f .before .before .before .before .args .file .now) in (
       e .0,
       (
-        λ h. ascending-sorted g (e .1 .0 (t .if2 .taken)) (up .count-up .last .1 .0) (λ i l. up .count-up .ensures .0 i (omega (arith, up .before .before .u16-at .ensures))),
+        λ h. ascending-sorted g (e .1 .0 (t .if2 .taken)) (up .count-up .last .1 .0) (λ i l. up .count-up .ensures .0 i (omega (arith, up .before .before .size-of .ensures))),
         up .count-up .ensures .1 ∙ e .1 .1 .1,
       ),
     )
@@ -72,7 +66,7 @@ refusal-with-order-spec =
     file-state-requires
     same-length
     returns
-    u16-at-requires
+    size-of-requires
     count-up-requires
     same-length-2
     returns-2

@@ -2,8 +2,6 @@
 use borrow.Author.Tests.{eq-eqb, ne-eqb}
 use Rattle.calls.proofs.counts.both.Statement.{statement}
 use Rattle.calls.proofs.counts.both.Tie as tie
-use Rattle.calls.proofs.counts.both.Reads as reads
-use Rattle.calls.proofs.counts.both.Lts as lts
 
 returns : tie.Need-returns
 returns c = rw (ne-eqb _ 1 (c .if1 .taken))

@@ -4,16 +4,12 @@ use mathlib.Core.Bool.{_&&_}
 use mathlib.Core.Path.{_≡_, sym, ap, _∙_}
 use Rattle.graph.specs.Range.{sum, if}
 use Rattle.graph.proofs.Sums.{sum-empty, sum-next, sum-tests}
-use Rattle.network.specs.File.{graphOf, groupOf}
+use Rattle.network.specs.File.{graphOf}
+use Rattle.network.specs.Groups.{groupOf}
 use native.Mathlib.Omega.{arith}
 use borrow.Author.Needs.{needs}
 use Rattle.calls.proofs.counts.edges_between.Statement.{statement}
 use Rattle.calls.proofs.counts.edges_between.Tie as tie
-use Rattle.calls.proofs.counts.edges_between.Reads as reads
-use Rattle.calls.proofs.counts.edges_between.Lts as lts
-use Rattle.calls.proofs.counts.both.Reads as both-reads
-use Rattle.network.proofs.end_at.Reads as end-at-reads
-use Rattle.network.proofs.u16_at.Reads as u16-at-reads
 
 abbrev Inv-loop : tie.InvT-loop
 Inv-loop file s t size total₀ e₀ total e = (e ≤ size) × (total ≡ sum (λ d. if (groupOf s (graphOf file .source d) && groupOf t (graphOf file .target d)) 1) e)
@@ -21,15 +17,15 @@ Inv-loop file s t size total₀ e₀ total e = (e ≤ size) × (total ≡ sum (�
 abbrev μ-loop : tie.MeasureT-loop
 μ-loop file s t size total₀ e₀ total e = size - e
 
-u16-at-requires : tie.Need-u16-at-requires Inv-loop μ-loop
-u16-at-requires c κs = search needs
+size-of-requires : tie.Need-size-of-requires Inv-loop μ-loop
+size-of-requires c κs = search needs
 
 -- the function's entry
-abbrev start : tie.After-u16-at Inv-loop μ-loop → tie.Start Inv-loop μ-loop
+abbrev start : tie.After-size-of Inv-loop μ-loop → tie.Start Inv-loop μ-loop
 start c = c .before .before .before .before
 
 -- what is counted at each edge
-abbrev tests : tie.After-u16-at Inv-loop μ-loop → ℕ → ℕ
+abbrev tests : tie.After-size-of Inv-loop μ-loop → ℕ → ℕ
 tests c d = let a = start c .args in if (groupOf (a .s .now) (graphOf (a .file .now) .source d) && groupOf (a .t .now) (graphOf (a .file .now) .target d)) 1
 
 loop-holds : tie.Need-loop-holds Inv-loop μ-loop
@@ -43,7 +39,7 @@ end-at-requires-2 c κs = search needs
 
 -- e is an edge of the file
 inside : (c : tie.In-loop Inv-loop μ-loop) → c .before .loop .e < graphOf (start (c .before .before) .args .file .now) .size
-inside c = omega (arith, c .before .before .u16-at .ensures, c .loop-test .taken)
+inside c = omega (arith, c .before .before .size-of .ensures, c .loop-test .taken)
 
 shared-slice-read-both : tie.Need-shared-slice-read-both Inv-loop μ-loop
 shared-slice-read-both c =
@@ -82,7 +78,7 @@ add-total c =
     omega (
       arith,
       more c,
-      start b .pre .0 .size-most,
+      start b .pre .0 .header,
       inside (c .before .before .before .before .before),
       sum-tests (λ d. groupOf (a .s .now) (graphOf (a .file .now) .source d) && groupOf (a .t .now) (graphOf (a .file .now) .target d)) (l .e + 1),
     )
@@ -100,7 +96,7 @@ returns : tie.Need-returns Inv-loop μ-loop
 returns c =
     let l = c .before .loop in
     let b = c .before .before in
-    let e : l .e ≡ graphOf (start b .args .file .now) .size = omega (arith, b .u16-at .ensures) in
+    let e : l .e ≡ graphOf (start b .args .file .now) .size = omega (arith, b .size-of .ensures) in
     l .inv .1 ∙ ap (sum (tests b)) e
 
 pub edges-between-spec : {M : Type 1} → statement M
@@ -109,7 +105,7 @@ edges-between-spec =
     (tie.spec
     Inv-loop
     μ-loop
-    u16-at-requires
+    size-of-requires
     loop-holds
     end-at-requires
     end-at-requires-2

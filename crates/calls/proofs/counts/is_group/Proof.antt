@@ -13,8 +13,6 @@ use native.Mathlib.Omega.{arith}
 use borrow.Author.Needs.{needs}
 use Rattle.calls.proofs.counts.is_group.Statement.{statement}
 use Rattle.calls.proofs.counts.is_group.Tie as tie
-use Rattle.calls.proofs.counts.is_group.Reads as reads
-use Rattle.calls.proofs.counts.is_group.Lts as lts
 
 abbrev Inv-loop : tie.InvT-loop
 Inv-loop group n u₀ u = (u ≤ n) × ((k : ℕ) → k < u → ltb 1 (getD group k 0) ≡ false)

@@ -2,8 +2,6 @@
 use borrow.Author.Tests.{eq-eqb, ne-eqb}
 use Rattle.calls.proofs.counts.member.Statement.{statement}
 use Rattle.calls.proofs.counts.member.Tie as tie
-use Rattle.calls.proofs.counts.member.Reads as reads
-use Rattle.calls.proofs.counts.member.Lts as lts
 
 returns : tie.Need-returns
 returns c = rw (eq-eqb _ 1 (c .if1 .taken))

@@ -10,8 +10,6 @@ use native.Mathlib.Omega.{arith}
 use borrow.Author.Needs.{needs}
 use Rattle.calls.proofs.writes.copy.Statement.{statement}
 use Rattle.calls.proofs.writes.copy.Tie as tie
-use Rattle.calls.proofs.writes.copy.Reads as reads
-use Rattle.calls.proofs.writes.copy.Lts as lts
 
 abbrev Inv-loop : tie.InvT-loop
 Inv-loop file out₀ i₀ i-end out i = (i ≤ length file) × (length out ≡ length out₀) × (out ≡ sets out₀ 0 (take i file))

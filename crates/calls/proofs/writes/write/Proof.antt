@@ -5,15 +5,13 @@ use mathlib.Core.Path.{_≡_, refl, sym, ap, _∙_}
 use native.Mathlib.Omega.{arith}
 use lib.ListN.{length, getD}
 use lib.Seq.{sets}
-use Rattle.network.specs.File.{graphOf, none, fileRefusal}
-use Rattle.network.specs.Refusals.{fileLength}
-use Rattle.network.specs.Sides.{Sound}
+use Rattle.network.specs.File.{linkAt, graphOf, none, fileRefusal}
+use Rattle.network.specs.Accepted.{Accepted}
 use Rattle.network.specs.Calls as call
-use Rattle.network.proofs.Accepted.{Accepted, accepted}
-use Rattle.network.proofs.Headers.{accepted-sound, found-none}
-use Rattle.network.proofs.Answers.{call-refused}
-use Rattle.network.proofs.Writer.{write-file, write-short, write-none, write-stored}
+use Rattle.network.proofs.Accepted.{found-none, found-accepted}
+use Rattle.network.proofs.Answers.{call-refused, call-plain}
 use Rattle.calls.proofs.Itself.{written-itself}
+use Rattle.calls.proofs.Writer.{write-file, write-short, write-none, rewritten}
 use borrow.Author.Needs.{needs}
 use Rattle.calls.proofs.writes.write.Statement.{statement}
 use Rattle.calls.proofs.writes.write.Tie as tie
@@ -33,38 +31,36 @@ returns c =
 abbrev start : tie.Else1 → tie.Start
 start c = c .before .before .before .before .before .before .before .before
 
--- there is no refusal,
+-- there is no refusal of the file,
 gives-none : (c : tie.Else1) → fileRefusal (start c .args .file .now) ≡ none
 gives-none c = found-none _ (c .before .before .before .before .file-state .ensures .0) (c .if1 .left)
 
--- so the file is accepted,
+-- so it is accepted
 accept : (c : tie.Else1) → Accepted (start c .args .file .now)
-accept c = accepted (start c .args .file .now) .0 (gives-none c)
+accept c = found-accepted _ (c .before .before .before .before .file-state .ensures .0) (c .if1 .left)
 
--- and every edge of it can be read
-sound : (c : tie.Else1) → Sound (start c .args .file .now)
-sound c = accepted-sound (accept c)
+size-of-requires : tie.Need-size-of-requires
+size-of-requires c κs = omega (arith, accept c .sound .header)
 
-u16-at-requires : tie.Need-u16-at-requires
-u16-at-requires c κs = omega (arith, sound c .exact)
+link-at-requires : tie.Need-link-at-requires
+link-at-requires c κs = search needs
 
-mul-if2 : tie.Need-mul-if2
-mul-if2 c = search needs
-
-add-if2 : tie.Need-add-if2
-add-if2 c = search needs
+plain-requires : tie.Need-plain-requires
+plain-requires c κs = search needs
 
 returns-2 : tie.Need-returns-2
 returns-2 c =
-    let b = c .before .before in
-    call-refused (write-short (start b .args .file .now) _ (gives-none b) (omega (arith, c .before .u16-at .ensures, c .if2 .taken))) (omega arith)
+    let t = c .before in
+    let b = t .before .before .before in
+    call-plain 9 (omega arith) (c .plain .ensures)
+    (write-short (start b .args .file .now) _ (gives-none b) (omega (arith, t .before .before .size-of .ensures, t .before .link-at .ensures, t .if2 .taken)))
 
 -- the output is long enough
-long : (c : tie.Else2) → fileLength (graphOf (start (c .before .before) .args .file .now)) ≤ length (start (c .before .before) .args .out .now)
-long c = omega (arith, c .before .u16-at .ensures, c .if2 .left)
+long : (c : tie.Else2) → linkAt (graphOf (start (c .before .before .before) .args .file .now) .size) ≤ length (start (c .before .before .before) .args .out .now)
+long c = omega (arith, c .before .before .size-of .ensures, c .before .link-at .ensures, c .if2 .left)
 
 copy-requires : tie.Need-copy-requires
-copy-requires c κs = let d = c .before .before in omega (arith, long d, sound (d .before .before) .exact)
+copy-requires c κs = let d = c .before .before in omega (arith, long d, accept (d .before .before .before) .sound .header)
 
 same-length : tie.Need-same-length
 same-length c = search needs
@@ -77,10 +73,10 @@ returns-3 : tie.Need-returns-3
 returns-3 c =
     let t = c .before .before .before .before in
     let d = t .before in
-    let b = d .before .before in
-    let itself = written-itself (start b .args .file .now) (bytes b) (accept b) (b .before .before .before .before .file-state .ensures .1 .0 (t .if3 .taken)) in
-    let stored = c .before .before .copy .ensures ∙ ap (sets (start b .args .out .now) 0) (sym itself) in
-    call.accepted _ (write-none (start b .args .file .now) _ (gives-none b) (long d)) refl (d .before .u16-at .ensures .0, write-stored (start b .args .file .now) _ (long d) stored)
+    let b = d .before .before .before in
+    let itself = written-itself (start b .args .file .now) (bytes b) (accept b .sound .header) (b .before .before .before .before .file-state .ensures .1 .0 (t .if3 .taken)) in
+    call.accepted _ (write-none (start b .args .file .now) _ (gives-none b) (long d)) refl
+    (rewritten _ (accept b) (long d) (d .before .before .size-of .ensures .0) (c .before .before .copy .ensures ∙ ap (sets (start b .args .out .now) 0) (sym itself)))
 
 slice-aggregate-put-file : tie.Need-slice-aggregate-put-file
 slice-aggregate-put-file c = search needs
@@ -89,9 +85,9 @@ put-file-requires : tie.Need-put-file-requires
 put-file-requires c κs =
     let t = c .before .before in
     let d = t .before in
-    let b = d .before .before in
+    let b = d .before .before .before in
     let e = b .before .before .before .before .file-state .ensures in
-    (sound b, ((omega (arith, sound b .size-most, e .1 .1 .1), long d), e .1 .1 .0 (e .0 ∙ gives-none b) (t .if3 .left)))
+    (accept b .sound, ((omega (arith, accept b .sound .header, e .1 .1 .1), long d), e .1 .1 .0 (e .0 ∙ gives-none b) (t .if3 .left)))
 
 same-length-2 : tie.Need-same-length-2
 same-length-2 c = search needs
@@ -99,9 +95,9 @@ same-length-2 c = search needs
 returns-4 : tie.Need-returns-4
 returns-4 c =
     let d = c .before .before .before .before .before .before in
-    let b = d .before .before in
-    let f = start b .args .file .now in
-    call.accepted _ (write-none f _ (gives-none b) (long d)) refl (d .before .u16-at .ensures .0, write-stored f _ (long d) (c .before .before .put-file .ensures))
+    let b = d .before .before .before in
+    call.accepted _ (write-none (start b .args .file .now) _ (gives-none b) (long d)) refl
+    (rewritten _ (accept b) (long d) (d .before .before .size-of .ensures .0) (c .before .before .put-file .ensures))
 
 pub write-spec : {M : Type 1} → statement M
 write-spec =
@@ -110,9 +106,9 @@ write-spec =
     slice-aggregate-file-state
     file-state-requires
     returns
-    u16-at-requires
-    mul-if2
-    add-if2
+    size-of-requires
+    link-at-requires
+    plain-requires
     returns-2
     copy-requires
     same-length

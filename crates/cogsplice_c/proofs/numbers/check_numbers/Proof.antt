@@ -4,8 +4,6 @@ use Rattle.cogsplice_c.specs.Told.{checkNumbers}
 use borrow.Author.Needs.{needs}
 use Rattle.cogsplice_c.proofs.numbers.check_numbers.Statement.{statement}
 use Rattle.cogsplice_c.proofs.numbers.check_numbers.Tie as tie
-use Rattle.cogsplice_c.proofs.numbers.check_numbers.Reads as reads
-use Rattle.cogsplice_c.proofs.numbers.check_numbers.Lts as lts
 
 enum-known-answer : tie.Need-enum-known-answer
 enum-known-answer c = search needs

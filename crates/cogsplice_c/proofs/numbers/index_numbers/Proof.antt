@@ -4,8 +4,6 @@ use Rattle.cogsplice_c.specs.Told.{indexNumbers}
 use borrow.Author.Needs.{needs}
 use Rattle.cogsplice_c.proofs.numbers.index_numbers.Statement.{statement}
 use Rattle.cogsplice_c.proofs.numbers.index_numbers.Tie as tie
-use Rattle.cogsplice_c.proofs.numbers.index_numbers.Reads as reads
-use Rattle.cogsplice_c.proofs.numbers.index_numbers.Lts as lts
 
 enum-told : tie.Need-enum-told
 enum-told c = search needs

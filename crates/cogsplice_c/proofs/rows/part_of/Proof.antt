@@ -6,26 +6,22 @@ use Rattle.adjacency.proofs.Refusals.{Row, row-accepted, accepted-row}
 use borrow.Author.Needs.{needs}
 use Rattle.cogsplice_c.proofs.rows.part_of.Statement.{statement}
 use Rattle.cogsplice_c.proofs.rows.part_of.Tie as tie
-use Rattle.cogsplice_c.proofs.rows.part_of.Reads as reads
-use Rattle.cogsplice_c.proofs.rows.part_of.Lts as lts
-use Rattle.adjacency.proofs.refusal_of.Reads as refusal-of-reads
-use Rattle.network.proofs.wide16.Reads as wide16-reads
 
 -- past the test the row is accepted
 accepted : (c : tie.Else1)
     → Row (now (c .before .before .before .before .args .starts)) (now (c .before .before .before .before .args .rows)) (c .before .before .before .before .args .member)
 accepted c = accepted-row _ _ _ (omega arith)
 
-refusal-of-requires : tie.Need-refusal-of-requires
-refusal-of-requires c κs = search needs
+row-number-requires : tie.Need-row-number-requires
+row-number-requires c κs = search needs
 
 returns : tie.Need-returns
 returns c =
     record {
-      refusal = c .before .refusal-of .ensures;
+      refusal = c .before .row-number .ensures;
       refused = λ h. (refl, refl);
-      start = λ h. absurd (c .if1 .taken (c .before .refusal-of .ensures ∙ ap (λ r. r .number) h));
-      length = λ h. absurd (c .if1 .taken (c .before .refusal-of .ensures ∙ ap (λ r. r .number) h));
+      start = λ h. absurd (c .if1 .taken (c .before .row-number .ensures ∙ ap (λ r. r .number) h));
+      length = λ h. absurd (c .if1 .taken (c .before .row-number .ensures ∙ ap (λ r. r .number) h));
     }
 
 mul-wide16 : tie.Need-mul-wide16
@@ -66,7 +62,7 @@ pub part-of-spec : {M : Type 1} → statement M
 part-of-spec =
     tie.close
     (tie.spec
-    refusal-of-requires
+    row-number-requires
     returns
     mul-wide16
     shared-slice-read-wide16

@@ -1,63 +1,66 @@
--- `enter` refuses by the file, then by what comes later; else it lays the places of the file's network into the work table.
-use Prim.Native.Nat.{_+_, _*_, _≤_}
-use mathlib.Core.Path.{_≡_, refl, sym, ap, _∙_}
+-- `enter` refuses by the file, then by what comes later; else it fills the work table with the file's network.
+use Prim.Native.Nat.{ℕ, _≤_}
+use mathlib.Core.List.{List}
+use mathlib.Core.Path.{_≡_, refl, sym, ap, subst, _∙_}
 use native.Mathlib.Omega.{arith}
 use lib.ListN.{length}
 use Rattle.network.specs.File.{graphOf, none, plain, fileRefusal}
-use Rattle.network.specs.Sides.{Sound}
+use Rattle.network.specs.Refusals.{workLength}
+use Rattle.network.specs.Accepted.{Accepted}
 use Rattle.network.specs.Calls as call
-use Rattle.network.proofs.Accepted.{accepted}
-use Rattle.network.proofs.Answers.{call-refused}
-use Rattle.network.proofs.Headers.{accepted-sound, found-none}
+use Rattle.network.proofs.Accepted.{found-none, found-accepted}
+use Rattle.network.proofs.Answers.{call-refused, call-plain}
+use Rattle.peeling.specs.Peeling.{Tabled}
 use Rattle.cores.specs.Entries.{laterRefusal}
-use Rattle.cores.proofs.WayIn.{entry-file, entry-later, later-long, file-tabled, file-small}
+use Rattle.cores.proofs.WayIn.{entry-file, entry-later, later-long}
 use borrow.Author.Needs.{needs}
 use Rattle.cores.proofs.entries.enter.Statement.{statement}
 use Rattle.cores.proofs.entries.enter.Tie as tie
 
-slice-aggregate-refusal-with-order : tie.Need-slice-aggregate-refusal-with-order
-slice-aggregate-refusal-with-order c = search needs
-
-refusal-with-order-requires : tie.Need-refusal-with-order-requires
-refusal-with-order-requires c κs = search needs
+file-refusal-requires : tie.Need-file-refusal-requires
+file-refusal-requires c κs = search needs
 
 returns : tie.Need-returns
 returns c =
-    let a = c .before .before .before .before .before .before .before .args in
-    call-refused (entry-file (a .ask) (a .file .now) (a .s) (a .t) _ (c .before .before .before .refusal-with-order .ensures .0) (c .if1 .taken)) (c .if1 .taken)
+    let a = c .before .before .before .before .before .args in
+    call-refused (entry-file (a .ask) (a .file .now) (a .s) (a .t) _ (c .before .before .file-refusal .ensures) (c .if1 .taken)) (c .if1 .taken)
 
 -- the function's entry
 abbrev start : tie.Else1 → tie.Start
-start c = c .before .before .before .before .before .before .before
+start c = c .before .before .before .before .before
 
--- the file is accepted
+-- there is no refusal of the file,
 gives-none : (c : tie.Else1) → fileRefusal (start c .args .file .now) ≡ none
-gives-none c = found-none _ (c .before .before .before .refusal-with-order .ensures .0) (c .if1 .left)
+gives-none c = found-none _ (c .before .before .file-refusal .ensures) (c .if1 .left)
 
--- so every edge of it can be read
-sound : (c : tie.Else1) → Sound (start c .args .file .now)
-sound c = accepted-sound (accepted (start c .args .file .now) .0 (gives-none c))
+-- so it is accepted
+accept : (c : tie.Else1) → Accepted (start c .args .file .now)
+accept c = found-accepted _ (c .before .before .file-refusal .ensures) (c .if1 .left)
 
-u16-at-requires : tie.Need-u16-at-requires
-u16-at-requires c κs = omega (arith, sound c .exact)
+order-of-requires : tie.Need-order-of-requires
+order-of-requires c κs = omega (arith, accept c .sound .header)
 
-u16-at-requires-2 : tie.Need-u16-at-requires-2
-u16-at-requires-2 c κs = omega (arith, sound (c .before) .exact)
+size-of-requires : tie.Need-size-of-requires
+size-of-requires c κs = omega (arith, accept (c .before) .sound .header)
 
 later-number-requires : tie.Need-later-number-requires
-later-number-requires c κs = let k = sound (c .before .before) in (omega (arith, c .before .u16-at .ensures, k .order-most), omega (arith, c .u16-at2 .ensures, k .size-most))
+later-number-requires c κs = let h = accept (c .before .before) .sound .header in omega (arith, c .before .order-of .ensures, c .size-of .ensures)
+
+plain-requires : tie.Need-plain-requires
+plain-requires c κs = search needs
 
 -- what is told later is so of the file's network
 later : (c : tie.After-later-number)
     → let a = start (c .before .before .before) .args in
     plain (c .later-number .result) ≡ laterRefusal (a .ask) (graphOf (a .file .now) .order) (graphOf (a .file .now) .size) (a .s) (a .t) (length (a .work .now))
-later c = rw (c .before .before .u16-at .ensures .0, c .before .u16-at2 .ensures .0) at (c .later-number .ensures)
+later c = rw (c .before .before .order-of .ensures .0, c .before .size-of .ensures .0) at (c .later-number .ensures)
 
 returns-2 : tie.Need-returns-2
 returns-2 c =
-    let b = c .before .before .before .before in
+    let t = c .before in
+    let b = t .before .before .before .before in
     let a = start b .args in
-    call-refused (entry-later (a .ask) (a .file .now) (a .s) (a .t) _ (gives-none b) (later (c .before))) (c .if2 .taken)
+    call-plain (t .before .later-number .result) (t .if2 .taken) (c .plain .ensures) (entry-later (a .ask) (a .file .now) (a .s) (a .t) _ (gives-none b) (later (t .before)))
 
 -- past it no table is short,
 later-none : (c : tie.Else2)
@@ -69,56 +72,54 @@ later-none c = sym (later (c .before)) ∙ ap plain (c .if2 .left)
 long : (c : tie.Else2)
     → let a = start (c .before .before .before .before) .args in
     let g = graphOf (a .file .now) in
-    (g .order ≤ a .s) × (g .order ≤ a .t) × (2 * g .size + 6 * g .order + 2 ≤ length (a .work .now))
+    (g .order ≤ a .s) × (g .order ≤ a .t) × (workLength (g .order) (g .size) ≤ length (a .work .now))
 long c =
     let a = start (c .before .before .before .before) .args in
     let g = graphOf (a .file .now) in
     later-long (a .ask) (g .order) (g .size) (a .s) (a .t) (length (a .work .now)) (later-none c)
 
-slice-aggregate-index-places : tie.Need-slice-aggregate-index-places
-slice-aggregate-index-places c = search needs
-
-index-places-requires : tie.Need-index-places-requires
-index-places-requires c κs =
-    let d = c .before .before in
-    let b = d .before .before .before .before in
-    let e = b .before .before .before .refusal-with-order .ensures in
-    (sound b, (omega (arith, sound b .size-most, e .1 .1), (e .1 .0 (e .0 ∙ gives-none b), long d .2)))
+fill-all-requires : tie.Need-fill-all-requires
+fill-all-requires c κs = let d = c .before in (accept (d .before .before .before .before), long d .2)
 
 same-length : tie.Need-same-length
 same-length c = search needs
 
+-- the numbers of vertices and edges as they were read
+tabled-as : (f : List ℕ) {w : List ℕ} {n m : ℕ} → n ≡ graphOf f .order → m ≡ graphOf f .size → Tabled (graphOf f) (graphOf f .order) (graphOf f .size) w → Tabled (graphOf f) n m w
+tabled-as f {w} {n} p q t = subst (λ k. Tabled (graphOf f) n k w) (sym q) (subst (λ k. Tabled (graphOf f) k (graphOf f .size) w) (sym p) t)
+
 returns-3 : tie.Need-returns-3
 returns-3 c =
-    let d = c .before .before .before .before .before in
+    let f = c .before .before in
+    let d = f .before .before in
     let b = d .before .before .before .before in
     let a = start b .args in
-    let n = d .before .before .before .u16-at .ensures .0 in
-    let m = d .before .before .u16-at2 .ensures .0 in
-    let p = c .before .before .index-places .ensures in
-    call.accepted (d .before .before .before .u16-at .result, d .before .before .u16-at2 .result)
+    let n = d .before .before .before .order-of .ensures .0 in
+    let m = d .before .before .size-of .ensures .0 in
+    let filled = f .fill-all .ensures in
+    call.accepted (d .before .before .before .order-of .result, d .before .before .size-of .result)
     (sym (entry-later (a .ask) (a .file .now) (a .s) (a .t) _ (gives-none b) (sym (later-none d)))) refl
     (record {
-      tabled = file-tabled (sound b) (p .0) n m;
-      size = sym m;
-      small = file-small (sound b) n m;
+      accepted = accept b;
+      order = n;
+      size = m;
+      tabled = tabled-as (a .file .now) n m (filled .tabled);
       sources = omega (arith, n, long d .0);
       targets = omega (arith, n, long d .1);
-      work = p .1;
+      work = (filled .same-length, filled .past);
     })
 
 pub enter-spec : {M : Type 1} → statement M
 enter-spec =
     tie.close
     (tie.spec
-    slice-aggregate-refusal-with-order
-    refusal-with-order-requires
+    file-refusal-requires
     returns
-    u16-at-requires
-    u16-at-requires-2
+    order-of-requires
+    size-of-requires
     later-number-requires
+    plain-requires
     returns-2
-    slice-aggregate-index-places
-    index-places-requires
+    fill-all-requires
     same-length
     returns-3)

@@ -1,8 +1,8 @@
 -- `later_number` tests the lengths in turn, and then what is asked.
-use Prim.Native.Nat.{_+_, _*_}
 use mathlib.Core.Bool.{or-true}
 use mathlib.Core.Path.{_≡_, sym, ap, _∙_}
 use borrow.Author.Tests.{lt-ltb, le-ltb, eq-eqb, ne-eqb}
+use Rattle.network.specs.Refusals.{workLength}
 use Rattle.cores.specs.Entries.{askRefusal, laterRefusal}
 use borrow.Author.Needs.{needs}
 use Rattle.cores.proofs.entries.later_number.Statement.{statement}
@@ -14,26 +14,17 @@ returns c = let a = c .before .args in sym (rw (lt-ltb (a .s) (a .n) (c .if1 .ta
 returns-2 : tie.Need-returns-2
 returns-2 c = let a = c .before .before .args in sym (rw (lt-ltb (a .t) (a .n) (c .if2 .taken), or-true))
 
-mul-if3 : tie.Need-mul-if3
-mul-if3 c = search needs
-
-mul-if3-2 : tie.Need-mul-if3-2
-mul-if3-2 c = search needs
-
-add-if3 : tie.Need-add-if3
-add-if3 c = search needs
-
-add-if3-2 : tie.Need-add-if3-2
-add-if3-2 c = search needs
+work-length-requires : tie.Need-work-length-requires
+work-length-requires c κs = search needs
 
 returns-3 : tie.Need-returns-3
-returns-3 c = let a = c .before .before .before .args in sym (rw (lt-ltb (a .work) (2 * a .m + 6 * a .n + 2) (c .if3 .taken), or-true))
+returns-3 c = let a = c .before .before .before .before .args in sym (rw (lt-ltb (a .work) (workLength (a .n) (a .m)) (rw (c .before .work-length .ensures) at (c .if3 .taken)), or-true))
 
 -- where the tables are long enough, what is asked is left
-long : (c : tie.Else3) → let a = c .before .before .before .args in laterRefusal (a .ask) (a .n) (a .m) (a .s) (a .t) (a .work) ≡ askRefusal (a .ask) (a .m)
+long : (c : tie.Else3) → let a = c .before .before .before .before .args in laterRefusal (a .ask) (a .n) (a .m) (a .s) (a .t) (a .work) ≡ askRefusal (a .ask) (a .m)
 long c =
-    let a = c .before .before .before .args in
-    rw (le-ltb (a .s) (a .n) (c .before .before .if1 .left), le-ltb (a .t) (a .n) (c .before .if2 .left), le-ltb (a .work) (2 * a .m + 6 * a .n + 2) (c .if3 .left))
+    let a = c .before .before .before .before .args in
+    rw (le-ltb (a .s) (a .n) (c .before .before .before .if1 .left), le-ltb (a .t) (a .n) (c .before .before .if2 .left), le-ltb (a .work) (workLength (a .n) (a .m)) (rw (c .before .work-length .ensures) at (c .if3 .left)))
 
 enum-told : tie.Need-enum-told
 enum-told c = search needs
@@ -45,19 +36,19 @@ enum-told-2 : tie.Need-enum-told-2
 enum-told-2 c = search needs
 
 returns-4 : tie.Need-returns-4
-returns-4 c = let m = c .before .before .before .before .before .args .m in sym (long (c .before .before) ∙ ap (λ k. askRefusal k m) (c .enum-told .given .1))
+returns-4 c = let m = c .before .before .before .before .before .before .args .m in sym (long (c .before .before) ∙ ap (λ k. askRefusal k m) (c .enum-told .given .1))
 
 returns-5 : tie.Need-returns-5
-returns-5 c = let m = c .before .before .before .before .before .before .before .args .m in sym (long (c .before .before .before .before) ∙ ap (λ k. askRefusal k m) (c .before .before .ask .given .1) ∙ rw (eq-eqb _ 0 (c .if4 .taken)))
+returns-5 c = let m = c .before .before .before .before .before .before .before .before .args .m in sym (long (c .before .before .before .before) ∙ ap (λ k. askRefusal k m) (c .before .before .ask .given .1) ∙ rw (eq-eqb _ 0 (c .if4 .taken)))
 
 returns-6 : tie.Need-returns-6
-returns-6 c = let m = c .before .before .before .before .before .before .before .args .m in sym (long (c .before .before .before .before) ∙ ap (λ k. askRefusal k m) (c .before .before .ask .given .1) ∙ rw (ne-eqb _ 0 (c .if4 .left)))
+returns-6 c = let m = c .before .before .before .before .before .before .before .before .args .m in sym (long (c .before .before .before .before) ∙ ap (λ k. askRefusal k m) (c .before .before .ask .given .1) ∙ rw (ne-eqb _ 0 (c .if4 .left)))
 
 returns-7 : tie.Need-returns-7
-returns-7 c = let m = c .before .before .before .before .before .before .args .m in sym (long (c .before .before .before) ∙ ap (λ k. askRefusal k m) (c .before .enum-told2 .given .1) ∙ rw (eq-eqb _ 0 (c .if5 .taken)))
+returns-7 c = let m = c .before .before .before .before .before .before .before .args .m in sym (long (c .before .before .before) ∙ ap (λ k. askRefusal k m) (c .before .enum-told2 .given .1) ∙ rw (eq-eqb _ 0 (c .if5 .taken)))
 
 returns-8 : tie.Need-returns-8
-returns-8 c = let m = c .before .before .before .before .before .before .args .m in sym (long (c .before .before .before) ∙ ap (λ k. askRefusal k m) (c .before .enum-told2 .given .1) ∙ rw (ne-eqb _ 0 (c .if5 .left)))
+returns-8 c = let m = c .before .before .before .before .before .before .before .args .m in sym (long (c .before .before .before) ∙ ap (λ k. askRefusal k m) (c .before .enum-told2 .given .1) ∙ rw (ne-eqb _ 0 (c .if5 .left)))
 
 pub later-number-spec : {M : Type 1} → statement M
 later-number-spec =
@@ -65,10 +56,7 @@ later-number-spec =
     (tie.spec
     returns
     returns-2
-    mul-if3
-    mul-if3-2
-    add-if3
-    add-if3-2
+    work-length-requires
     returns-3
     enum-told
     enum-known-ask

@@ -19,7 +19,7 @@ find-in-requires : tie.Need-find-in-requires
 find-in-requires c κs =
     let b = c .before .before .before in
     let r = entry-ready _ _ _ _ _ _ (b .before .before .before .before .before .enter .ensures) _ _ (b .before .entry2 .given .1) .1 in
-    (r .small, (entered-rows r, (r .sources, r .targets)))
+    (entered-rows r .0, (entered-rows r .1, (r .sources, r .targets)))
 
 same-length : tie.Need-same-length
 same-length c = search needs

@@ -9,7 +9,7 @@ use denote.Ref.{now}
 use borrow.Author.Needs.{needs}
 use Rattle.peeling.specs.Peeling.{Rows}
 use Rattle.peeling.proofs.Kept.{rows-kept}
-use Rattle.peeling.proofs.Unreached.{longest-kept}
+use Rattle.climbing.proofs.Unreached.{longest-kept}
 use Rattle.finding.proofs.Turns.{sidesLeft, Searching, kept-back, search-begins, search-from, search-more, search-turns, search-ends}
 use Rattle.finding.proofs.searches.search.Statement.{statement}
 use Rattle.finding.proofs.searches.search.Tie as tie
@@ -60,7 +60,8 @@ loop-less : tie.Need-loop-less Inv-loop μ-loop Inv-search μ-search
 loop-less c = search needs
 
 loop-again : tie.Need-loop-again Inv-loop μ-loop Inv-search μ-search
-loop-again c = search-more (c .before .before .before .before .before .loop .inv) (c .before .before .before .before .if1 .left) (c .before .before .try-one .ensures)
+loop-again c =
+    search-more (c .before .before .before .before .before .loop .inv) (omega (arith, c .before .before .before .before .if1 .left)) (c .before .before .try-one .ensures)
 
 search-less : tie.Need-search-less Inv-loop μ-loop Inv-search μ-search
 search-less c = rw (c .enum-told2 .given .1) (omega arith)

@@ -7,7 +7,7 @@ use native.Mathlib.Nat.{div-mul-le-self, div-le-self}
 use native.Mathlib.Omega.{arith}
 use borrow.Author.Needs.{needs}
 use Rattle.finding.specs.Searches.{xAt}
-use Rattle.finding.proofs.Starts.{product-range, quotient-high, begins-past, begins-at, begins-after}
+use Rattle.finding.proofs.Starts.{product-range, quotient-high, first-past, first-at, first-after}
 use Rattle.finding.proofs.searches.start_of.Statement.{statement}
 use Rattle.finding.proofs.searches.start_of.Tie as tie
 
@@ -35,7 +35,7 @@ returns : tie.Need-returns
 returns c =
     let s = c .before .before in
     let a = s .args in
-    begins-past (a .side) (a .fixed) (quotient s) (a .best) (s .pre .0 .0) (omega (arith, div-mul-le-self (product s) (a .fixed), c .if1 .taken))
+    first-past (a .side) (a .fixed) (quotient s) (a .best) (s .pre .0 .0) (omega (arith, div-mul-le-self (product s) (a .fixed), c .if1 .taken))
     (quotient-high (product s) (a .fixed) (s .pre .0 .0))
 
 enum-told : tie.Need-enum-told
@@ -55,14 +55,14 @@ returns-2 : tie.Need-returns-2
 returns-2 c =
     let s = c .before .before .before .before .before in
     let a = s .args in
-    begins-at (a .side) (a .fixed) (quotient s) (a .best) (s .pre .0 .0) (c .before .before .before .if1 .left) (product-range (s .pre .1) .0)
+    first-at (a .side) (a .fixed) (quotient s) (a .best) (s .pre .0 .0) (c .before .before .before .if1 .left) (product-range (s .pre .1) .0)
     (rw (x-at (c .before .before)) at (c .if2 .taken))
 
 returns-3 : tie.Need-returns-3
 returns-3 c =
     let s = c .before .before .before .before .before in
     let a = s .args in
-    begins-after (a .side) (a .fixed) (quotient s) (a .best) (s .pre .0 .0) (c .before .before .before .if1 .left)
+    first-after (a .side) (a .fixed) (quotient s) (a .best) (s .pre .0 .0) (c .before .before .before .if1 .left)
     (rw (x-at (c .before .before)) at (c .if2 .left))
 
 pub start-of-spec : {M : Type 1} → statement M

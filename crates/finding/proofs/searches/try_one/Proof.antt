@@ -3,10 +3,10 @@
 -- of it and, from the start on, before the best.
 use denote.Ref.{now}
 use borrow.Author.Needs.{needs}
-use Rattle.peeling.specs.Climbs.{Climbed}
 use Rattle.peeling.proofs.Kept.{kept-same}
-use Rattle.peeling.proofs.Levels.{climbed-none}
-use Rattle.peeling.proofs.Unreached.{longest-stops}
+use Rattle.climbing.specs.Climbs.{Climbed}
+use Rattle.climbing.proofs.Levels.{climbed-none}
+use Rattle.climbing.proofs.Unreached.{longest-stops}
 use Rattle.finding.specs.Searches.{riseOf, Tries}
 use Rattle.finding.proofs.Lines.{pairAt, tries-none, tries-some}
 use Rattle.finding.proofs.searches.try_one.Statement.{statement}

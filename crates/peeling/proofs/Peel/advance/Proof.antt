@@ -1,4 +1,4 @@
--- `cores::Peel::advance` meets its contract: the peel goes by the new needs when it runs, and both calls keep the rows.
+-- `peeling::Peel::advance` meets its contract: the peel goes by the new needs when it runs, and both calls keep the rows.
 use borrow.Author.Needs.{needs}
 use Rattle.peeling.proofs.Kept.{kept-next, ended-from}
 use Rattle.peeling.proofs.Peel.advance.Statement.{statement}

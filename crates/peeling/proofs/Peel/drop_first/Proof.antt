@@ -1,4 +1,4 @@
--- `cores::Peel::drop_first` meets its contract: the head goes past its place, and the place's row is passed.
+-- `peeling::Peel::drop_first` meets its contract: the head goes past its place, and the place's row is passed.
 use Prim.Native.Nat.{ℕ, _+_}
 use mathlib.Core.Path.{_≡_, ap, _∙_}
 use native.Mathlib.Omega.{arith}
@@ -6,7 +6,7 @@ use denote.Ref.{now}
 use lib.ListN.{getD}
 use Rattle.peeling.specs.Peeling.{queueOf}
 use Rattle.peeling.proofs.Queues.{queue-most}
-use Rattle.peeling.proofs.Drops.{drop-begins}
+use Rattle.peeling.proofs.Losses.{drop-begins}
 use borrow.Author.Needs.{needs}
 use Rattle.peeling.proofs.Peel.drop_first.Statement.{statement}
 use Rattle.peeling.proofs.Peel.drop_first.Tie as tie
@@ -22,13 +22,13 @@ queue-at-requires : tie.Need-queue-at-requires
 queue-at-requires c κs = search needs
 
 add-at : tie.Need-add-at
-add-at c = omega (arith, queue-most (c .before .before .before .pre .1 .1 .queue))
+add-at c = omega (arith, queue-most (c .before .before .before .pre .1 .1 .queued .queue))
 
 mul-wide16 : tie.Need-mul-wide16
-mul-wide16 c = omega (arith, queue-most (c .before .before .before .pre .1 .1 .queue))
+mul-wide16 c = omega (arith, queue-most (c .before .before .before .pre .1 .1 .queued .queue))
 
 slice-read-wide16 : tie.Need-slice-read-wide16
-slice-read-wide16 c = omega (arith, queue-most (c .before .before .before .before .pre .1 .1 .queue), c .before .before .before .before .pre .1 .1 .rows .long)
+slice-read-wide16 c = omega (arith, queue-most (c .before .before .before .before .pre .1 .1 .queued .queue), c .before .before .before .before .pre .1 .1 .queued .rows .long)
 
 wide16-requires : tie.Need-wide16-requires
 wide16-requires c κs = search needs

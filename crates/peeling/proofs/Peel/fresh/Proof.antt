@@ -1,4 +1,4 @@
--- `cores::Peel::fresh` meets its contract: with the degrees filled in, the table holds the peel that has not begun.
+-- `peeling::Peel::fresh` meets its contract: with the degrees filled in, the table holds the peel that has not begun.
 use borrow.Author.Needs.{needs}
 use Rattle.peeling.proofs.Whole.{whole-peel}
 use Rattle.peeling.proofs.Peel.fresh.Statement.{statement}

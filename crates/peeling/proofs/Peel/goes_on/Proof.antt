@@ -1,4 +1,4 @@
--- `cores::Peel::goes_on` meets its contract: the tests decide one after the other.
+-- `peeling::Peel::goes_on` meets its contract: the tests decide one after the other.
 use borrow.Author.Needs.{needs}
 use borrow.Author.Tests.{lt-ltb, le-ltb}
 use Rattle.peeling.proofs.Peel.goes_on.Statement.{statement}

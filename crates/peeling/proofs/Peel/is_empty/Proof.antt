@@ -1,4 +1,4 @@
--- `cores::Peel::is_empty` meets its contract: the test on the sources decides, or that on the targets.
+-- `peeling::Peel::is_empty` meets its contract: the test on the sources decides, or that on the targets.
 use mathlib.Core.Path.{sym}
 use borrow.Author.Tests.{eq-eqb, ne-eqb}
 use Rattle.peeling.proofs.Peel.is_empty.Statement.{statement}

@@ -1,4 +1,4 @@
--- `cores::Peel::lower` meets its contract: the test is whether the degree was just what the place needs.
+-- `peeling::Peel::lower` meets its contract: the test is whether the degree was just what the place needs.
 use Prim.Native.Nat.{ℕ, _+_}
 use mathlib.Core.Path.{_≡_, sym, ap, _∙_}
 use native.Mathlib.Omega.{arith}
@@ -37,7 +37,9 @@ slice-read-degree : tie.Need-slice-read-degree
 slice-read-degree c = search needs
 
 sub-work : tie.Need-sub-work
-sub-work c = rw (c .before .degrees-at .ensures) (c .before .before .before .pre .1 .1 .0 .1)
+sub-work c =
+    let g = c .before .before .before .args in
+    omega (arith, ap (λ (k : ℕ). getD (now (g .work)) (k + g .place) 0) (c .before .degrees-at .ensures), c .before .before .before .pre .1 .1 .0 .1)
 
 mul-work : tie.Need-mul-work
 mul-work c = search needs

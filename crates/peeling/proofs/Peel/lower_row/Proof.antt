@@ -1,4 +1,4 @@
--- `cores::Peel::lower_row` meets its contract. The loop's invariant: the drop has come as far as the entries passed. The measure is the number
+-- `peeling::Peel::lower_row` meets its contract. The loop's invariant: the drop has come as far as the entries passed. The measure is the number
 -- of entries left.
 use Prim.Native.Nat.{_-_}
 use native.Mathlib.Omega.{arith}
@@ -57,7 +57,7 @@ mul-wide16-3 c = search needs
 
 slice-read-wide16-3 : tie.Need-slice-read-wide16-3 Inv-loop μ-loop
 slice-read-wide16-3 c =
-    pass-inside (c .before .before .before .before .before .before .before .before .before .pre .1 .rows) (c .before .before .loop .inv) (c .before .loop-test .taken)
+    pass-inside (c .before .before .before .before .before .before .before .before .before .pre .1 .queued .rows) (c .before .before .loop .inv) (c .before .loop-test .taken)
 
 wide16-requires-3 : tie.Need-wide16-requires-3 Inv-loop μ-loop
 wide16-requires-3 c κs = search needs
@@ -68,8 +68,8 @@ lower-requires c κs =
     let inv = c .before .before .before .before .loop .inv in
     let l = c .before .before .before .loop-test .taken in
     let e = c .before .wide163 .ensures .0 in
-    let r = start .1 .rows in
-    (start .0, (inv .dropping .rows .long, ((pass-place r inv l e, pass-some r inv l e), pass-room r inv l e)))
+    let r = start .1 .queued .rows in
+    (start .0, (inv .dropping .queued .rows .long, ((pass-place r inv l e, pass-some r inv l e), pass-room r inv l e)))
 
 add-k-2 : tie.Need-add-k-2 Inv-loop μ-loop
 add-k-2 c = search needs
@@ -82,7 +82,7 @@ loop-again c =
     let start = c .before .before .before .before .before .before .before .before .before .before .before .before .before .before .pre in
     let inv = c .before .before .before .before .before .before .before .loop .inv in
     let after = c .before .before .lower .ensures in
-    pass-next (start .1 .rows) inv (c .before .before .before .before .before .before .loop-test .taken) (c .before .before .before .before .wide163 .ensures .0) (after .0) (after .1)
+    pass-next (start .1 .queued .rows) inv (c .before .before .before .before .before .before .loop-test .taken) (c .before .before .before .before .wide163 .ensures .0) (after .0) (after .1)
 
 same-length : tie.Need-same-length Inv-loop μ-loop
 same-length c = search needs
@@ -90,7 +90,7 @@ same-length c = search needs
 returns : tie.Need-returns Inv-loop μ-loop
 returns c =
     let inv = c .before .loop .inv in
-    (pass-ends (c .before .before .before .before .before .before .before .before .pre .1 .rows) inv (c .loop-test .left), (inv .head, inv .kept))
+    (pass-ends (c .before .before .before .before .before .before .before .before .pre .1 .queued .rows) inv (c .loop-test .left), (inv .head, inv .kept))
 
 pub lower-row-spec : {M : Type 1} → statement M
 lower-row-spec =

@@ -1,4 +1,4 @@
--- `cores::Peel::push` meets its contract: one store, at the queue's tail, and the test on the place decides which side loses one.
+-- `peeling::Peel::push` meets its contract: one store, at the queue's tail, and the test on the place decides which side loses one.
 use borrow.Author.Needs.{needs}
 use borrow.Author.Tests.{lt-ltb, le-ltb}
 use Rattle.peeling.proofs.Peel.push.Statement.{statement}

@@ -1,4 +1,4 @@
--- `cores::Peel::raise` meets its contract: a place that was short, or has enough still, is left; another is pushed.
+-- `peeling::Peel::raise` meets its contract: a place that was short, or has enough still, is left; another is pushed.
 use Prim.Native.Nat.{ℕ, _+_, _*_, _<_, _≤_}
 use mathlib.Core.Path.{_≡_, refl, sym, ap, _∙_}
 use native.Mathlib.Omega.{arith}
@@ -90,7 +90,7 @@ push-requires : tie.Need-push-requires
 push-requires c κs =
     let start = c .before .before .before .before .before .before .before .before .before in
     let room = raise-room _ _ _ (inside start) (more start) (start .pre .1 .1 .1 .1) (enough (c .before .before .before)) (less (c .before)) in
-    (start .pre .0, (start .pre .1 .1 .1 .1 .rows .long, (inside start, room)))
+    (start .pre .0, (start .pre .1 .1 .1 .1 .queued .rows .long, (inside start, room)))
 
 same-length : tie.Need-same-length
 same-length c = search needs

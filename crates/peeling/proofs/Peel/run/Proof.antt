@@ -1,4 +1,4 @@
--- `cores::Peel::run` meets its contract. The loop's invariant: the peel goes by the scope's needs, and the rows are kept. The measure is the
+-- `peeling::Peel::run` meets its contract. The loop's invariant: the peel goes by the scope's needs, and the rows are kept. The measure is the
 -- number of places that the head has not passed.
 use Prim.Native.Nat.{_-_, _*_, _<_}
 use mathlib.Core.Bool.{true, not, _||_, false≢true, or-true}
@@ -32,7 +32,7 @@ over c h =
     let s = c .before .before .loop .peel in
     elim (decLt (s .head) (s .tail)) [
       | yes l ↦ absurd (false≢true (sym (sym (c .before .goes-on .ensures) ∙ c .if1 .left) ∙ and-both (lt-ltb _ _ l) h))
-      | no l ↦ omega (arith, c .before .before .loop .inv .0 .waiting)
+      | no l ↦ omega (arith, c .before .before .loop .inv .0 .queued .waiting)
     ]
 
 loop-holds : tie.Need-loop-holds Inv-loop μ-loop
@@ -47,7 +47,7 @@ drop-first-requires c κs = (c .before .before .before .before .before .pre .0, 
 loop-less : tie.Need-loop-less Inv-loop μ-loop
 loop-less c =
     let turn = c .before .before .before .before in
-    omega (arith, queue-most (turn .before .before .loop .inv .0 .queue), c .before .before .drop-first .ensures .1 .0, waits turn)
+    omega (arith, queue-most (turn .before .before .loop .inv .0 .queued .queue), c .before .before .drop-first .ensures .1 .0, waits turn)
 
 loop-again : tie.Need-loop-again Inv-loop μ-loop
 loop-again c =

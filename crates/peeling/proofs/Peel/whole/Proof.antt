@@ -1,4 +1,4 @@
--- `cores::Peel::whole` meets its contract: a peel that has not begun asks nothing, and goes on to what the scope asks.
+-- `peeling::Peel::whole` meets its contract: a peel that has not begun asks nothing, and goes on to what the scope asks.
 use borrow.Author.Needs.{needs}
 use Rattle.peeling.proofs.Kept.{kept-next, ended-from}
 use Rattle.peeling.proofs.Peel.whole.Statement.{statement}

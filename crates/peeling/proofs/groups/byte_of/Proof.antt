@@ -1,4 +1,4 @@
--- `cores::groups::byte_of` meets its contract: the test on the degree decides.
+-- `peeling::groups::byte_of` meets its contract: the test on the degree decides.
 use Prim.Native.Nat.{_<_, _≤_}
 use native.Mathlib.Omega.{arith}
 use borrow.Author.Tests.{le-leb, lt-leb}

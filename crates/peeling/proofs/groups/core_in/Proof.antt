@@ -1,4 +1,4 @@
--- `cores::groups::core_in` meets its contract: the peel has ended, both groups go by its degrees, and its counts are theirs.
+-- `peeling::groups::core_in` meets its contract: the peel has ended, both groups go by its degrees, and its sizes are theirs.
 use mathlib.Core.Path.{refl}
 use denote.Ref.{now}
 use borrow.Author.Needs.{needs}

@@ -1,4 +1,4 @@
--- `cores::groups::edges_left` meets its contract. The loop's invariant: the total is over the vertices before u, and so below 65536 for each.
+-- `peeling::groups::edges_left` meets its contract. The loop's invariant: the total is over the vertices before u, and so below 65536 for each.
 -- The measure is the number of vertices left to pass.
 use Prim.Native.Nat.{ℕ, _+_, _≤_, _-_, _*_}
 use mathlib.Core.Path.{_≡_, sym}
@@ -8,12 +8,12 @@ use borrow.Author.Needs.{needs}
 use lib.ListN.{getD}
 use Rattle.graph.specs.Range.{sum, if}
 use Rattle.graph.proofs.Sums.{sum-empty, sum-next}
-use Rattle.peeling.specs.Groups.{atLeast, weightOf}
+use Rattle.peeling.specs.Groups.{atLeast, sumAtLeast}
 use Rattle.peeling.proofs.groups.edges_left.Statement.{statement}
 use Rattle.peeling.proofs.groups.edges_left.Tie as tie
 
 abbrev Inv-loop : tie.InvT-loop
-Inv-loop work at n least total₀ u₀ total u = (u ≤ n) × (total ≡ weightOf work at least u) × (total ≤ 65536 * u)
+Inv-loop work at n least total₀ u₀ total u = (u ≤ n) × (total ≡ sumAtLeast work at least u) × (total ≤ 65536 * u)
 
 abbrev μ-loop : tie.MeasureT-loop
 μ-loop work at n least total₀ u₀ total u = n - u
@@ -21,25 +21,25 @@ abbrev μ-loop : tie.MeasureT-loop
 loop-holds : tie.Need-loop-holds Inv-loop μ-loop
 loop-holds c = (omega arith, sym (sum-empty _), omega arith)
 
-add-weight-of : tie.Need-add-weight-of Inv-loop μ-loop
-add-weight-of c = search needs
+add-counted-degree : tie.Need-add-counted-degree Inv-loop μ-loop
+add-counted-degree c = search needs
 
-mul-weight-of : tie.Need-mul-weight-of Inv-loop μ-loop
-mul-weight-of c = search needs
+mul-counted-degree : tie.Need-mul-counted-degree Inv-loop μ-loop
+mul-counted-degree c = search needs
 
-shared-slice-read-weight-of : tie.Need-shared-slice-read-weight-of Inv-loop μ-loop
-shared-slice-read-weight-of c = search needs
+shared-slice-read-counted-degree : tie.Need-shared-slice-read-counted-degree Inv-loop μ-loop
+shared-slice-read-counted-degree c = search needs
 
-weight-of-requires : tie.Need-weight-of-requires Inv-loop μ-loop
-weight-of-requires c κs = search needs
+counted-degree-requires : tie.Need-counted-degree-requires Inv-loop μ-loop
+counted-degree-requires c κs = search needs
 
 -- what a vertex counts
 abbrev counts : tie.Start Inv-loop μ-loop → ℕ → ℕ
 counts c u = if (atLeast (now (c .args .work)) (c .args .at) (c .args .least) u) (getD (now (c .args .work)) (c .args .at + u) 0)
 
 -- one vertex more
-more : (c : tie.After-weight-of Inv-loop μ-loop) → c .before .before .before .loop .total + c .weight-of .result ≡ sum (counts (c .before .before .before .before .before)) (c .before .before .before .loop .u + 1)
-more c = omega (arith, c .before .before .before .loop .inv .1, c .weight-of .ensures .0, sum-next (counts (c .before .before .before .before .before)) (c .before .before .before .loop .u))
+more : (c : tie.After-counted-degree Inv-loop μ-loop) → c .before .before .before .loop .total + c .counted-degree .result ≡ sum (counts (c .before .before .before .before .before)) (c .before .before .before .loop .u + 1)
+more c = omega (arith, c .before .before .before .loop .inv .1, c .counted-degree .ensures .0, sum-next (counts (c .before .before .before .before .before)) (c .before .before .before .loop .u))
 
 add-total : tie.Need-add-total Inv-loop μ-loop
 add-total c = search needs
@@ -51,7 +51,7 @@ loop-less : tie.Need-loop-less Inv-loop μ-loop
 loop-less c = search needs
 
 loop-again : tie.Need-loop-again Inv-loop μ-loop
-loop-again c = (omega arith, more c, omega (arith, c .before .before .before .loop .inv .2, c .weight-of .ensures .1))
+loop-again c = (omega arith, more c, omega (arith, c .before .before .before .loop .inv .2, c .counted-degree .ensures .1))
 
 returns : tie.Need-returns Inv-loop μ-loop
 returns c =
@@ -65,10 +65,10 @@ edges-left-spec =
     Inv-loop
     μ-loop
     loop-holds
-    add-weight-of
-    mul-weight-of
-    shared-slice-read-weight-of
-    weight-of-requires
+    add-counted-degree
+    mul-counted-degree
+    shared-slice-read-counted-degree
+    counted-degree-requires
     add-total
     add-u
     loop-less

@@ -1,4 +1,4 @@
--- `cores::groups::write_group` meets its contract. The loop's invariant: the bytes before u are those of the group, and the others as they
+-- `peeling::groups::write_group` meets its contract. The loop's invariant: the bytes before u are those of the group, and the others as they
 -- were. The measure is the number of bytes left to write.
 use Prim.Native.Nat.{_≤_, _-_}
 use mathlib.Core.List.{_++_}
@@ -6,7 +6,7 @@ use mathlib.Core.Path.{_≡_, refl}
 use native.Mathlib.Omega.{arith}
 use borrow.Author.Needs.{needs}
 use lib.ListN.{length, drop, length-set}
-use Rattle.network.specs.Tables.{bytesOf}
+use Rattle.network.specs.Groups.{bytesOf}
 use Rattle.peeling.specs.Groups.{atLeast}
 use Rattle.peeling.proofs.Bytes.{fill-begins, fill-next}
 use Rattle.peeling.proofs.groups.write_group.Statement.{statement}

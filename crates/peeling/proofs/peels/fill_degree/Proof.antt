@@ -1,4 +1,4 @@
--- `cores::peels::fill_degree` meets its contract: one store. The difference does not wrap, since starts ascend.
+-- `peeling::peels::fill_degree` meets its contract: one store. The difference does not wrap, since starts ascend.
 use borrow.Author.Needs.{needs}
 use Rattle.peeling.proofs.peels.fill_degree.Statement.{statement}
 use Rattle.peeling.proofs.peels.fill_degree.Tie as tie

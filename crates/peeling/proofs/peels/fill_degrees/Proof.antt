@@ -1,10 +1,10 @@
--- `cores::peels::fill_degrees` meets its contract. The loop's invariant: the degrees of the places passed are the lengths of their rows, and
+-- `peeling::peels::fill_degrees` meets its contract. The loop's invariant: the degrees of the places passed are the lengths of their rows, and
 -- the rows are kept. The measure is the number of places left.
 use Prim.Native.Nat.{_-_, _*_, _≤_}
 use mathlib.Core.Path.{_≡_, refl}
 use native.Mathlib.Omega.{arith}
 use Rattle.peeling.proofs.Kept.{kept-same, rows-kept}
-use Rattle.peeling.proofs.Whole.{Filled, fill-next}
+use Rattle.peeling.proofs.Whole.{Filled, filled-next}
 use borrow.Author.Needs.{needs}
 use Rattle.peeling.proofs.peels.fill_degrees.Statement.{statement}
 use Rattle.peeling.proofs.peels.fill_degrees.Tie as tie
@@ -37,7 +37,7 @@ loop-again : tie.Need-loop-again Inv-loop μ-loop
 loop-again c =
     let start = c .before .before .before .before .before .before .before .before .pre in
     let inv = c .before .before .before .before .before .loop .inv in
-    (inv .0, omega arith, fill-next _ (start .1) (inv .2) (omega arith) (c .before .before .fill-degree .ensures))
+    (inv .0, omega arith, filled-next _ (start .1) (inv .2) (omega arith) (c .before .before .fill-degree .ensures))
 
 same-length : tie.Need-same-length Inv-loop μ-loop
 same-length c = search needs

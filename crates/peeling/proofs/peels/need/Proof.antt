@@ -1,4 +1,4 @@
--- `cores::peels::need` meets its contract: the test on the place decides.
+-- `peeling::peels::need` meets its contract: the test on the place decides.
 use borrow.Author.Tests.{lt-ltb, le-ltb}
 use Rattle.peeling.proofs.peels.need.Statement.{statement}
 use Rattle.peeling.proofs.peels.need.Tie as tie

@@ -21,14 +21,14 @@ unfolding linkText
 named c = rw (sym (c .before .names-link .ensures) ∙ c .if1 .taken)
 
 put-label-requires : tie.Need-put-label-requires
-put-label-requires c κs = rw (c .before .wide16 .ensures) (rw (named (c .before .before .before)) at (c .before .before .before .before .before .before .pre))
+put-label-requires c κs = rw (c .before .wide16 .ensures .0) (rw (named (c .before .before .before)) at (c .before .before .before .before .before .before .pre))
 
 same-length : tie.Need-same-length
 same-length c = search needs
 
 returns : tie.Need-returns
 returns c =
-    rw (named (c .before .before .before .before .before .before), ← c .before .before .before .before .wide16 .ensures) (c .before .before .put-label .ensures)
+    rw (named (c .before .before .before .before .before .before), ← c .before .before .before .before .wide16 .ensures .0) (c .before .before .put-label .ensures)
 
 returns-2 : tie.Need-returns-2
 unfolding linkText

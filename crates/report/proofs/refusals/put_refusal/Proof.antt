@@ -22,7 +22,7 @@ fits c =
     omega (
       arith,
       simp length-append at (refusal-longest (start .args .refusal) (omega (arith, start .good .0)) (omega (arith, start .good .0))),
-      ap (λ k. length (decimal k)) (c .wide16 .ensures),
+      ap (λ k. length (decimal k)) (c .wide16 .ensures .0),
     )
 
 slice-aggregate-put-label : tie.Need-slice-aggregate-put-label
@@ -54,7 +54,7 @@ returns c =
     let number = link .before .before .before .before in
     put-first (
     put-then (omega arith)
-    (put-then (omega arith) (rw (number .before .before .wide16 .ensures) at (number .put-label .ensures)) (link .put-link .ensures))
+    (put-then (omega arith) (rw (number .before .before .wide16 .ensures .0) at (number .put-label .ensures)) (link .put-link .ensures))
     (end .put-bytes .ensures)
     )
 

@@ -1,0 +1,34 @@
+-- The bytes of a group: one for each member, and the same group again; and when two counts are the same.
+use Prim.Native.Nat.{ℕ, _<_}
+use mathlib.Core.Bool.{Bool, true, false}
+use mathlib.Core.Path.{_≡_, refl}
+use lib.Dec.{eqb}
+use lib.ListN.{length, getD}
+use Rattle.graph.specs.Range.{if}
+use Rattle.graph.specs.Graph.{Group}
+use Rattle.graph.proofs.Ranges.{length-table, getD-table}
+use Rattle.network.specs.declared.Totals.{Totals}
+use Rattle.network.specs.Groups.{groupOf, bytesOf}
+
+-- the bytes of a group are one for each member
+pub length-bytesOf : (n : ℕ) (S : Group) → length (bytesOf n S) ≡ n
+length-bytesOf n S = length-table _ _
+
+-- byte u is 1 where u is in the group, else 0
+pub getD-bytesOf : (n : ℕ) (S : Group) (u : ℕ) → u < n → getD (bytesOf n S) u 0 ≡ if (S u) 1
+getD-bytesOf n S u l = getD-table (λ u. if (S u) 1) n u l
+
+-- so they are the same group again
+pub groupOf-bytesOf : (n : ℕ) (S : Group) (u : ℕ) → u < n → groupOf (bytesOf n S) u ≡ S u
+groupOf-bytesOf n S u l = rw (getD-bytesOf n S u l) (test (S u))
+  where
+    test : (b : Bool) → eqb (if b 1) 1 ≡ b
+    test true = refl
+    test false = refl
+
+-- E, |S| and |T| are those of another count where each of the three is
+pub totals-same : {a b : Totals} → a .edges ≡ b .edges → a .sources ≡ b .sources → a .targets ≡ b .targets → a ≡ b
+totals-same {a} {b} e s t = alike
+  where
+    alike : _≡_ {A = Totals} (record { edges = a .edges; sources = a .sources; targets = a .targets }) (record { edges = b .edges; sources = b .sources; targets = b .targets })
+    alike = rw (e, s, t)
