@@ -1,8 +1,14 @@
-# make         prove and build every crate, the program and the static library
-# make lib     prove and build the static library alone
-# make test    everything the gate runs; the verdict is its last line
-# make bench   measure the library against plain Rust, and write docs/BENCHMARKS.md
-.PHONY: all lib test bench tools
+# make           prove and build every crate, the program and the static library
+# make lib       prove and build the static library alone
+# make test      everything the gate runs; the verdict is its last line
+# make bench     measure the library against plain Rust, and write docs/BENCHMARKS.md
+# make time      how long the proofs of the commit BASE take, and those of HEAD: make time BASE=REVISION
+# make install   put the header, the static library, its pkg-config file and the program below PREFIX, inside DESTDIR
+.PHONY: all lib program test bench time install tools
+
+PREFIX = /usr/local
+DESTDIR =
+place = $(DESTDIR)$(PREFIX)
 
 all: tools
 	rt check
@@ -11,13 +17,24 @@ all: tools
 lib: tools
 	rt staticlib cogsplice_c
 
+program: tools
+	rt check vouch_report
+
 test: tools
-	rt fmt --check
-	tests/run
-	rt ci
+	@tests/gate
 
 bench: lib
 	cargo run --quiet --release --manifest-path bench/Cargo.toml
+
+time: tools
+	@tests/time $(BASE)
+
+install: lib program
+	install -d "$(place)/include" "$(place)/lib/pkgconfig" "$(place)/bin"
+	install -m 644 include/cogsplice.h "$(place)/include/cogsplice.h"
+	install -m 644 target/staticlib/libcogsplice_c.a "$(place)/lib/libcogsplice_c.a"
+	sed 's|@PREFIX@|$(PREFIX)|' include/cogsplice.pc.in > "$(place)/lib/pkgconfig/cogsplice.pc"
+	install -m 755 target/bin/vouch_report "$(place)/bin/vouch-report"
 
 tools:
 	@tests/tools

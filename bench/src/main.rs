@@ -1,6 +1,6 @@
 //! Measures the proved library against the same calls in plain Rust, prints the tables and writes docs/BENCHMARKS.md.
+mod inputs;
 mod measure;
-mod networks;
 mod plain;
 mod report;
 mod sides;
@@ -9,8 +9,8 @@ use measure::measure;
 use std::path::Path;
 
 fn main() -> std::io::Result<()> {
-    let shapes: Vec<_> = networks::shapes().into_iter().map(measure).collect();
-    let growth: Vec<_> = networks::growing().into_iter().map(measure).collect();
+    let shapes: Vec<_> = inputs::shapes().into_iter().map(measure).collect();
+    let growth: Vec<_> = inputs::growing().into_iter().map(measure).collect();
     let text = report::report(&shapes, &growth);
     print!("{text}");
     let page = Path::new(env!("CARGO_MANIFEST_DIR")).join("../docs/BENCHMARKS.md");

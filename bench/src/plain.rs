@@ -1,8 +1,10 @@
 //! The library's calls in plain Rust, written for speed: the same answers, refusals and lent tables. What they sort and peel in is
 //! kept from call to call, so that no call allocates once the largest network was seen.
+mod chunks;
 mod network;
 mod peel;
 
+use chunks::chunks_mut;
 use network::{fill_starts, next_place, source, target, Network, Sorter, HEADER_LENGTH};
 use peel::{Need, Peel, Rise};
 
@@ -73,8 +75,7 @@ impl Plain {
         Refusal::of_tables(&[(out.len(), file.len())])?;
         let (header, links) = out[..file.len()].split_at_mut(HEADER_LENGTH);
         header.copy_from_slice(&file[..HEADER_LENGTH]);
-        self.sorter
-            .lay_out(network, |link| link, links.as_chunks_mut().0);
+        self.sorter.lay_out(network, |link| link, chunks_mut(links));
         Ok([network.links.len()])
     }
 

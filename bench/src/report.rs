@@ -159,7 +159,7 @@ fn today() -> String {
 
 /// The date so many days after 1 January 1970.
 fn date_of(mut days: u64) -> (u64, usize, u64) {
-    let of = |year: u64, years| year.is_multiple_of(years);
+    let of = |year: u64, years| year % years == 0;
     let leap = |year| of(year, 4) && (!of(year, 100) || of(year, 400));
     let mut year = 1970;
     while days >= 365 + u64::from(leap(year)) {

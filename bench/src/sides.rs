@@ -1,7 +1,7 @@
 //! The two sides that are measured, called alike.
-use crate::networks::Input;
+use crate::inputs::Input;
 use crate::plain::{Index, Plain, Refusal};
-use cogsplice::lent;
+use cogsplice::{lent, work_length};
 
 /// The x and y of the core that is measured.
 const CORE: [u16; 2] = [2, 2];
@@ -85,7 +85,7 @@ impl Side for Library {
     fn new(input: &Input) -> Self {
         Self {
             tables: Tables::new(input, 2),
-            work: vec![0; 2 * input.m + 6 * input.n + 2],
+            work: vec![0; work_length(input.n, input.m)],
         }
     }
 

@@ -1,4 +1,5 @@
 use crate::{file_length, lent, work_length, Refusal, Side};
+use std::fmt;
 
 /// A network file that was accepted.
 #[derive(Clone, Debug, PartialEq, Eq)]
@@ -26,8 +27,8 @@ pub struct Pair {
 
 /// The non-empty `[x,y]`-core with the greatest `x * y`, among equal products that of the smallest `x`.
 ///
-/// No pair of groups is more than twice as dense.
-#[derive(Clone, Debug)]
+/// No pair of groups is more than twice as dense. `==` compares all of a finding, [`Finding::equals`] what makes two findings equal.
+#[derive(Clone, Debug, PartialEq, Eq)]
 pub struct Finding {
     pub x: usize,
     pub y: usize,
@@ -42,8 +43,31 @@ impl Finding {
     }
 }
 
+/// The four lines of the report program, without the end of the last.
+///
+/// ```
+/// let star = cogsplice::Network::from_links(4, &[(0, 1), (0, 2), (0, 3)]).unwrap();
+/// let report = "x 3 y 1 equal 1\nlinks 3 vouchers 1 vouched 3\nS 0\nT 1 2 3";
+/// assert_eq!(star.finding().unwrap().to_string(), report);
+/// ```
+impl fmt::Display for Finding {
+    fn fmt(&self, f: &mut fmt::Formatter<'_>) -> fmt::Result {
+        let Pair { s, t, edges } = &self.pair;
+        writeln!(f, "x {} y {} equal {}", self.x, self.y, self.equal_level)?;
+        writeln!(f, "links {edges} vouchers {} vouched {}", s.len(), t.len())?;
+        write_group(f, "S", s)?;
+        writeln!(f)?;
+        write_group(f, "T", t)
+    }
+}
+
+fn write_group(f: &mut fmt::Formatter<'_>, letter: &str, members: &[usize]) -> fmt::Result {
+    f.write_str(letter)?;
+    members.iter().try_for_each(|member| write!(f, " {member}"))
+}
+
 /// The members at the other end of each member's links, by side.
-#[derive(Clone, Debug)]
+#[derive(Clone, Debug, PartialEq, Eq)]
 pub struct Index {
     out_starts: Vec<u16>,
     out_rows: Vec<u16>,
@@ -81,7 +105,7 @@ impl Network {
     /// ```
     /// use cogsplice::{Network, Refusal};
     /// assert_eq!(Network::from_file(b"VCH\x01\x00\x02\x00\x00\x00".to_vec()).unwrap().members(), 2);
-    /// assert_eq!(Network::from_file(b"VCH\x02\x00\x02\x00\x00\x00".to_vec()), Err(Refusal::Version));
+    /// assert_eq!(Network::from_file(b"VCH\x03\x00\x02\x00\x00\x00".to_vec()), Err(Refusal::Version));
     /// ```
     pub fn from_file(file: Vec<u8>) -> Result<Network, Refusal> {
         let numbers = lent::check(&file);

@@ -8,7 +8,8 @@ use std::fmt;
 /// let refusal = Network::from_links(2, &[(0, 1), (1, 2)]).unwrap_err();
 /// assert_eq!(refusal, Refusal::End { link: 1 });
 /// assert_eq!(refusal.number(), 7);
-/// assert_eq!(refusal.to_string(), "refused 7 at 1: a link names a member not below n");
+/// assert_eq!(refusal.to_string(), "refused 7 at 1");
+/// assert_eq!(refusal.words(), "a link names a member not below n");
 /// ```
 #[derive(Clone, Copy, Debug, PartialEq, Eq)]
 pub enum Refusal {
@@ -43,46 +44,41 @@ pub enum Refusal {
 }
 
 impl Refusal {
-    /// The refusal of a call's numbers, where there is one.
-    pub(crate) fn of(number: u16, link: u16) -> Result<(), Refusal> {
-        let link = link.into();
-        Err(match number {
-            0 => return Ok(()),
-            1 => Refusal::Short,
-            2 => Refusal::Mark,
-            3 => Refusal::Version,
-            4 => Refusal::Members,
-            5 => Refusal::Links,
-            6 => Refusal::Length,
-            7 => Refusal::End { link },
-            8 => Refusal::Repeat { link },
-            9 => Refusal::Table,
-            10 => Refusal::Member,
-            11 => Refusal::Group,
-            12 => Refusal::Zero,
-            13 => Refusal::Linkless,
-            14 => Refusal::Row,
-            other => unreachable!("the library has no refusal {other}"),
-        })
+    /// All refusals in the order of their numbers, those that name a link with this one.
+    fn all(link: usize) -> [Refusal; 14] {
+        use Refusal::*;
+        let (end, repeat) = (End { link }, Repeat { link });
+        [
+            Short, Mark, Version, Members, Links, Length, end, repeat, Table, Member, Group, Zero, Linkless, Row,
+        ]
     }
 
-    /// The refusal's number and its words.
-    fn told(self) -> (u16, &'static str) {
+    /// The refusal of a call's numbers, where there is one.
+    pub(crate) fn of(number: u16, link: u16) -> Result<(), Refusal> {
+        if number == 0 {
+            return Ok(());
+        }
+        let refusal = Refusal::all(link.into()).into_iter().find(|refusal| refusal.number() == number);
+        Err(refusal.unwrap_or_else(|| unreachable!("the library has no refusal {number}")))
+    }
+
+    /// The refusal's number, the link that it names, and its words.
+    fn told(self) -> (u16, Option<usize>, &'static str) {
         match self {
-            Refusal::Short => (1, "the file is shorter than 9 bytes"),
-            Refusal::Mark => (2, "the mark is not VCH"),
-            Refusal::Version => (3, "the version is not 1"),
-            Refusal::Members => (4, "n is above 2048"),
-            Refusal::Links => (5, "m is above 8192"),
-            Refusal::Length => (6, "the length is not 9 + 4 * m"),
-            Refusal::End { .. } => (7, "a link names a member not below n"),
-            Refusal::Repeat { .. } => (8, "a link repeats an earlier one"),
-            Refusal::Table => (9, "a table is too short"),
-            Refusal::Member => (10, "a member is not below n"),
-            Refusal::Group => (11, "a byte of a group is neither 0 nor 1"),
-            Refusal::Zero => (12, "a level was asked for 0"),
-            Refusal::Linkless => (13, "the file has no link"),
-            Refusal::Row => (14, "a row does not lie in its table"),
+            Refusal::Short => (1, None, "the file is shorter than 9 bytes"),
+            Refusal::Mark => (2, None, "the mark is not VCH"),
+            Refusal::Version => (3, None, "the version is not 1"),
+            Refusal::Members => (4, None, "n is above 2048"),
+            Refusal::Links => (5, None, "m is above 8192"),
+            Refusal::Length => (6, None, "the length is not 9 + 4 * m"),
+            Refusal::End { link } => (7, Some(link), "a link names a member not below n"),
+            Refusal::Repeat { link } => (8, Some(link), "a link repeats an earlier one"),
+            Refusal::Table => (9, None, "a table is too short"),
+            Refusal::Member => (10, None, "a member is not below n"),
+            Refusal::Group => (11, None, "a byte of a group is neither 0 nor 1"),
+            Refusal::Zero => (12, None, "a level was asked for 0"),
+            Refusal::Linkless => (13, None, "the file has no link"),
+            Refusal::Row => (14, None, "a row does not lie in its table"),
         }
     }
 
@@ -93,19 +89,22 @@ impl Refusal {
 
     /// The number of the link that the refusal names.
     pub fn link(self) -> Option<usize> {
-        match self {
-            Refusal::End { link } | Refusal::Repeat { link } => Some(link),
-            _ => None,
-        }
+        self.told().1
+    }
+
+    /// The refusal in words.
+    pub fn words(self) -> &'static str {
+        self.told().2
     }
 }
 
+/// The line of the report program, without its end: `refused`, the number, and where it names a link `at` and the link's number.
 impl fmt::Display for Refusal {
     fn fmt(&self, f: &mut fmt::Formatter<'_>) -> fmt::Result {
-        let (number, words) = self.told();
+        write!(f, "refused {}", self.number())?;
         match self.link() {
-            Some(link) => write!(f, "refused {number} at {link}: {words}"),
-            None => write!(f, "refused {number}: {words}"),
+            Some(link) => write!(f, " at {link}"),
+            None => Ok(()),
         }
     }
 }

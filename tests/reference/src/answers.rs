@@ -3,7 +3,21 @@ use cogsplice::lent::{
     CheckNumbers, FindingNumbers, IndexNumbers, LevelNumbers, TotalsNumbers, WriteNumbers,
 };
 
-/// A number of 01's table, with the link's number for 7 and 8, else 0.
+/// The order in which refusals are tested: the first that applies is given.
+pub const ORDER: [u16; 14] = [1, 2, 3, 4, 5, 6, 7, 8, 9, 10, 11, 12, 13, 14];
+
+/// The number that is given where these apply, or 0 where none does.
+pub fn first_of(applying: &[u16]) -> u16 {
+    let first = ORDER.iter().find(|number| applying.contains(number));
+    first.copied().unwrap_or(0)
+}
+
+/// Whether a refusal by this number names a link.
+pub fn names_link(number: u16) -> bool {
+    matches!(number, 7 | 8)
+}
+
+/// A number of 01's table, with the link's number where it names one, else 0.
 #[derive(Clone, Copy, Debug, PartialEq, Eq)]
 pub struct Refusal {
     pub number: u16,
@@ -17,12 +31,19 @@ impl Refusal {
     }
 }
 
-/// Refusal 9: a lent table is shorter than the call needs. Each pair is a table's length and the length needed.
-pub fn long_enough(tables: &[(usize, usize)]) -> Result<(), Refusal> {
-    match tables.iter().any(|&(length, needed)| length < needed) {
-        true => Err(Refusal::plain(9)),
-        false => Ok(()),
+/// Refused by the first, in order, of the numbers whose condition holds.
+pub fn refuse(conditions: &[(u16, bool)]) -> Result<(), Refusal> {
+    let applying = conditions.iter().filter(|(_, holds)| *holds);
+    let applying: Vec<u16> = applying.map(|&(number, _)| number).collect();
+    match first_of(&applying) {
+        0 => Ok(()),
+        number => Err(Refusal::plain(number)),
     }
+}
+
+/// Whether a lent table is shorter than the call needs. Each pair is a table's length and the length needed.
+pub fn too_short(tables: &[(usize, usize)]) -> bool {
+    tables.iter().any(|&(length, needed)| length < needed)
 }
 
 /// The answer of a refused call: every other number is 0.

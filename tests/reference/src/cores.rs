@@ -1,7 +1,8 @@
 //! Cores, levels and the finding.
-use crate::answers::{long_enough, Refusal, Refused};
-use crate::file::{read, Network};
+use crate::answers::{refuse, too_short, Refusal, Refused};
+use crate::file::read;
 use cogsplice::lent::{FindingNumbers, LevelNumbers, TotalsNumbers};
+use networks::Network;
 
 /// A group: for each member, whether it is in.
 pub type Group = Vec<bool>;
@@ -117,19 +118,27 @@ fn try_core(
     t: &mut [u8],
     work: usize,
 ) -> Result<TotalsNumbers, Refusal> {
-    let network = read_with(file, &[s.len(), t.len()], work)?;
+    let network = read_with(file, &[s.len(), t.len()], work, |_| NO_OTHER)?;
     let (core_s, core_t) = core_of(&network, x as usize, y as usize);
     put(&core_s, s);
     put(&core_t, t);
     Ok(totals(&network, &core_s, &core_t))
 }
 
-/// The network of a file, for a call that is lent groups and a work table of these lengths.
-fn read_with(file: &[u8], groups: &[usize], work: usize) -> Result<Network, Refusal> {
+/// For a call that has no refusal of its own.
+const NO_OTHER: (u16, bool) = (0, false);
+
+/// The network of a file, for a call that is lent groups and a work table of these lengths, and that has perhaps one more refusal.
+fn read_with(
+    file: &[u8],
+    groups: &[usize],
+    work: usize,
+    other: impl Fn(&Network) -> (u16, bool),
+) -> Result<Network, Refusal> {
     let network = read(file)?;
     let mut tables: Vec<_> = groups.iter().map(|&length| (length, network.n)).collect();
     tables.push((work, work_length(network.n, network.links.len())));
-    long_enough(&tables)?;
+    refuse(&[(9, too_short(&tables)), other(&network)])?;
     Ok(network)
 }
 
@@ -159,9 +168,8 @@ fn level_by(
     zero: bool,
     non_empty: impl Fn(&Network, usize) -> bool,
 ) -> LevelNumbers {
-    match read_with(file, &[], work) {
+    match read_with(file, &[], work, |_| (12, zero)) {
         Err(refusal) => Refused::refused(refusal),
-        Ok(_) if zero => Refused::refused(Refusal::plain(12)),
         Ok(network) => LevelNumbers {
             refusal: 0,
             link: 0,
@@ -181,10 +189,10 @@ fn try_finding(
     t: &mut [u8],
     work: usize,
 ) -> Result<FindingNumbers, Refusal> {
-    let network = read_with(file, &[s.len(), t.len()], work)?;
-    if network.links.is_empty() {
-        return Err(Refusal::plain(13));
-    }
+    let lengths = [s.len(), t.len()];
+    let network = read_with(file, &lengths, work, |network| {
+        (13, network.links.is_empty())
+    })?;
     let (x, y) = finding_of(&network);
     let (core_s, core_t) = core_of(&network, x, y);
     put(&core_s, s);

@@ -1,6 +1,7 @@
 //! The network file: read with refusals 1 to 8, and written.
-use crate::answers::{long_enough, Refusal, Refused};
+use crate::answers::{refuse, too_short, Refusal, Refused};
 use cogsplice::lent::{CheckNumbers, WriteNumbers};
+use networks::{encode, Link, Network};
 use std::collections::HashSet;
 
 /// The most members of a network.
@@ -9,15 +10,8 @@ pub const MEMBERS: usize = 2048;
 /// The most links of a network.
 pub const LINKS: usize = 8192;
 
-/// A link: voucher, then vouched.
-pub type Link = (usize, usize);
-
-/// A network: the number of its members, and its links in the order of the file.
-#[derive(Clone, Debug, PartialEq, Eq)]
-pub struct Network {
-    pub n: usize,
-    pub links: Vec<Link>,
-}
+/// What a file of no bytes is refused with.
+const EMPTY: u16 = 1;
 
 /// The length of a file with m links.
 pub fn file_length(m: usize) -> usize {
@@ -29,7 +23,7 @@ fn number_at(file: &[u8], offset: usize) -> usize {
     file[offset] as usize + 256 * file[offset + 1] as usize
 }
 
-/// The network of an accepted file, or the lowest of the refusals 1 to 8.
+/// The network of an accepted file, or the first of the refusals 1 to 8.
 pub fn read(file: &[u8]) -> Result<Network, Refusal> {
     let (n, m) = read_head(file)?;
     let links: Vec<Link> = (0..m)
@@ -51,36 +45,19 @@ pub fn read(file: &[u8]) -> Result<Network, Refusal> {
     Ok(Network { n, links })
 }
 
-/// n and m, or the lowest of the refusals 1 to 6.
+/// n and m, or the first of the refusals 1 to 6.
 fn read_head(file: &[u8]) -> Result<(usize, usize), Refusal> {
-    if file.len() < 9 {
-        return Err(Refusal::plain(1));
-    }
+    let empty = file.is_empty();
+    refuse(&[(EMPTY, empty), (1, !empty && file.len() < 9)])?;
     let (n, m) = (number_at(file, 5), number_at(file, 7));
-    let faults = [
+    refuse(&[
         (2, file[0..3] != *b"VCH"),
         (3, number_at(file, 3) != 1),
         (4, n > MEMBERS),
         (5, m > LINKS),
         (6, file.len() != file_length(m)),
-    ];
-    match faults.iter().find(|(_, found)| *found) {
-        Some(&(number, _)) => Err(Refusal::plain(number)),
-        None => Ok((n, m)),
-    }
-}
-
-/// The bytes of a network's file, its links in the given order.
-pub fn encode(network: &Network) -> Vec<u8> {
-    let mut numbers = vec![1, network.n, network.links.len()];
-    numbers.extend(network.links.iter().flat_map(|&(a, b)| [a, b]));
-    let mut file = b"VCH".to_vec();
-    file.extend(
-        numbers
-            .iter()
-            .flat_map(|&number| (number as u16).to_le_bytes()),
-    );
-    file
+    ])?;
+    Ok((n, m))
 }
 
 /// The check: n and m of an accepted file.
@@ -104,7 +81,7 @@ pub fn write(file: &[u8], out: &mut [u8]) -> WriteNumbers {
 fn try_write(file: &[u8], out: &mut [u8]) -> Result<WriteNumbers, Refusal> {
     let mut network = read(file)?;
     let m = network.links.len();
-    long_enough(&[(out.len(), file_length(m))])?;
+    refuse(&[(9, too_short(&[(out.len(), file_length(m))]))])?;
     network.links.sort();
     out[..file_length(m)].copy_from_slice(&encode(&network));
     Ok(WriteNumbers {

@@ -1,8 +1,9 @@
 //! The index and its rows.
-use crate::answers::{long_enough, Refusal, Refused};
-use crate::file::{read, Link};
+use crate::answers::{refuse, too_short, Refusal, Refused};
+use crate::file::read;
 use cogsplice::lent::{IndexNumbers, RowNumbers};
 use cogsplice::Side;
+use networks::Link;
 
 /// The index: fills the starts and rows of both sides.
 pub fn index(
@@ -23,12 +24,13 @@ fn try_index(
 ) -> Result<IndexNumbers, Refusal> {
     let network = read(file)?;
     let (n, m) = (network.n, network.links.len());
-    long_enough(&[
+    let short = too_short(&[
         (out_starts.len(), n + 1),
         (out_rows.len(), m),
         (in_starts.len(), n + 1),
         (in_rows.len(), m),
-    ])?;
+    ]);
+    refuse(&[(9, short)])?;
     fill_side(n, network.links.clone(), out_starts, out_rows);
     let exchanged = network.links.iter().map(|&(a, b)| (b, a)).collect();
     fill_side(n, exchanged, in_starts, in_rows);
@@ -92,13 +94,12 @@ pub fn row_refusal(
         Side::Voucher => (out_starts, out_rows),
         Side::Vouched => (in_starts, in_rows),
     };
-    if starts.is_empty() {
-        9
-    } else if member >= starts.len() - 1 {
-        10
-    } else if starts[member] > starts[member + 1] || starts[member + 1] as usize > rows.len() {
-        14
-    } else {
-        0
-    }
+    let ends = starts.windows(2).nth(member);
+    let outside = |ends: &[u16]| ends[0] > ends[1] || ends[1] as usize > rows.len();
+    let refused = refuse(&[
+        (9, starts.is_empty()),
+        (10, ends.is_none()),
+        (14, ends.map_or(false, outside)),
+    ]);
+    refused.map_or_else(|refusal| refusal.number, |()| 0)
 }

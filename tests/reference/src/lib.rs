@@ -9,9 +9,9 @@ mod groups;
 mod index;
 mod report;
 
-pub use answers::Refusal;
+pub use answers::{first_of, Refusal};
 pub use cores::{core, equal_findings, equal_level, finding, level, level_across, work_length};
-pub use file::{check, encode, file_length, read, write, Link, Network, LINKS, MEMBERS};
+pub use file::{check, file_length, read, write, LINKS, MEMBERS};
 pub use groups::count;
 pub use index::{index, row, row_refusal};
 pub use report::{report, INPUT};

@@ -1,4 +1,5 @@
 //! The text of the report program.
+use crate::answers::names_link;
 use crate::cores::{finding, work_length};
 use crate::file::{LINKS, MEMBERS};
 
@@ -22,7 +23,7 @@ pub fn report(input: &[u8]) -> String {
             members(&s),
             members(&t)
         ),
-        7 | 8 => format!("refused {} at {}\n", found.refusal, found.link),
+        number if names_link(number) => format!("refused {number} at {}\n", found.link),
         number => format!("refused {number}\n"),
     }
 }

@@ -1,10 +1,10 @@
 //! Each call on a case's file, by the reference and by the library, with tables of many lengths.
 use crate::case::Case;
-use crate::draw::Draw;
 use crate::indexes::try_indexes;
 use crate::table::{lengths_to_try, Table};
 use cogsplice::lent;
-use reference::{file_length, work_length, Network};
+use networks::{root, Draw, Network};
+use reference::{file_length, work_length};
 use std::fmt::Debug;
 
 /// Every call on the case's file, accepted or not.
@@ -42,13 +42,14 @@ fn pairs_to_try(case: &mut Case) -> Vec<(u16, u16)> {
     let top = u16::MAX;
     let mut pairs = vec![(0, 0), (0, 1), (1, 0), (1, 1)];
     pairs.extend([(0, top), (top, 0), (1, top), (top, top)]);
-    let Ok(network) = reference::read(&case.file) else {
-        return pairs;
+    let network = match reference::read(&case.file) {
+        Ok(network) => network,
+        Err(_) => return pairs,
     };
     let most = most_links(&network);
     for _ in 0..6 {
         let [x, y] = most.map(|most| {
-            let high = case.draw.pick(&[most + 1, most.isqrt() + 1]);
+            let high = case.draw.pick(&[most + 1, root(most) + 1]);
             case.draw.among(0, high) as u16
         });
         pairs.push((x, y));

@@ -1,5 +1,5 @@
 //! One case: its random numbers, its file, and the comparisons made in it.
-use crate::draw::Draw;
+use networks::Draw;
 use reference::{LINKS, MEMBERS};
 use std::fmt::Debug;
 

@@ -1,15 +1,18 @@
 //! Files that are refused: each of the numbers 1 to 8 alone and in pairs, and accepted files with changed bytes.
 use crate::calls::{try_all, try_check};
 use crate::case::Case;
-use crate::draw::Draw;
 use crate::networks::{full_file, medium_file, roomy_network, small_file};
 use cogsplice::lent;
-use reference::{encode, file_length, Link, Network};
+use networks::{encode, Draw, Link, Network};
+use reference::{file_length, first_of};
 
 /// The numbers that a file's own bytes are refused with.
 pub const FILE_FAULTS: u16 = 8;
 
-/// A file with n members and links that is faulty by these numbers. The lowest of them refuses it.
+/// The number that a file of no bytes is refused with.
+pub const EMPTY: u16 = 1;
+
+/// A file with n members and links that is faulty by these numbers. The first of them in order refuses it.
 pub fn faulty_file(draw: &mut Draw, network: &Network, faults: &[u16]) -> Vec<u8> {
     let has = |number: u16| faults.contains(&number);
     let mut faulty = network.clone();
@@ -31,14 +34,14 @@ pub fn faulty_file(draw: &mut Draw, network: &Network, faults: &[u16]) -> Vec<u8
         file[draw.below(3)] ^= draw.among(1, 255) as u8;
     }
     if has(3) {
-        let version: u16 = draw.pick(&[0, 2, 0x0100, 0x0101, 0xffff]);
+        let version: u16 = draw.pick(&[0, 3, 0x0100, 0x0101, 0xffff]);
         file[3..5].copy_from_slice(&version.to_le_bytes());
     }
     if has(6) {
         change_length(draw, &mut file);
     }
     if has(1) {
-        file.truncate(draw.below(9));
+        file.truncate(draw.among(1, 8));
     }
     file
 }
@@ -83,7 +86,8 @@ pub fn pairs(case: &mut Case) {
     case.kind += &format!(", faults {low} and {high}");
     case.file = faulty_file(&mut case.draw, &network, &[low, high]);
     let given = lent::check(&case.file).refusal;
-    case.compare(|| "check: the lower number".into(), low, given);
+    let expected = first_of(&[low, high]);
+    case.compare(|| "check: the first in order".into(), expected, given);
     try_all(case);
 }
 
@@ -91,7 +95,7 @@ pub fn pairs(case: &mut Case) {
 pub fn changed_file(case: &mut Case) {
     match case.draw.below(300) {
         0 => full_file(case),
-        1..10 => medium_file(case),
+        1..=9 => medium_file(case),
         _ => small_file(case),
     }
     let (draw, file) = (&mut case.draw, &mut case.file);
@@ -126,7 +130,8 @@ pub fn lengths(case: &mut Case) {
         case.file = whole.clone();
         case.file.resize(length, 0);
         let expected = match length {
-            0..9 => 1,
+            0 => EMPTY,
+            1..=8 => 1,
             _ if length == file_length(case.claimed().1) => 0,
             _ => 6,
         };

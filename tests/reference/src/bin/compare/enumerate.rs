@@ -2,7 +2,8 @@
 use crate::calls::try_all;
 use crate::case::Case;
 use cogsplice::lent;
-use reference::{encode, work_length, Network};
+use networks::{encode, Network};
+use reference::work_length;
 use std::cmp::Reverse;
 
 /// Groups as sets of bits, one for each member.

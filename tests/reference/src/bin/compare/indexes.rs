@@ -2,7 +2,7 @@
 use crate::case::Case;
 use crate::table::{lengths_to_try, Table};
 use cogsplice::{lent, Side};
-use reference::Network;
+use networks::Network;
 
 /// Out-starts, out-rows, in-starts and in-rows.
 pub type Index = [Vec<u16>; 4];
@@ -12,9 +12,9 @@ pub fn try_indexes(case: &mut Case) {
     for lengths in lengths_to_try(&mut case.draw, [n + 1, m, n + 1, m]) {
         let mut tables = lengths.map(|length| Table::words(&mut case.draw, length));
         let mut library_tables = tables.clone();
-        let [out_starts, out_rows, in_starts, in_rows] = tables.each_mut().map(Table::lend);
+        let [out_starts, out_rows, in_starts, in_rows] = lend(&mut tables);
         let expected = reference::index(&case.file, out_starts, out_rows, in_starts, in_rows);
-        let [out_starts, out_rows, in_starts, in_rows] = library_tables.each_mut().map(Table::lend);
+        let [out_starts, out_rows, in_starts, in_rows] = lend(&mut library_tables);
         let given = lent::index(&case.file, out_starts, out_rows, in_starts, in_rows);
         case.seen(expected.refusal);
         case.compare(
@@ -26,6 +26,16 @@ pub fn try_indexes(case: &mut Case) {
     if let Ok(network) = reference::read(&case.file) {
         try_rows(case, &network);
     }
+}
+
+fn lend(tables: &mut [Table<u16>; 4]) -> [&mut [u16]; 4] {
+    let [out_starts, out_rows, in_starts, in_rows] = tables;
+    [
+        out_starts.lend(),
+        out_rows.lend(),
+        in_starts.lend(),
+        in_rows.lend(),
+    ]
 }
 
 /// All rows of an accepted file's index, on both sides, and members that are not there.

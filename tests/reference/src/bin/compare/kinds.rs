@@ -1,6 +1,5 @@
 //! Networks of many kinds, for any number of members and any limit of links.
-use crate::draw::Draw;
-use reference::{Link, Network};
+use networks::{root, Draw, Link, Network};
 
 /// A kind of network: its links among n members, about m at most. Repeats are taken out later.
 pub struct Kind {
@@ -145,7 +144,7 @@ fn sparse(draw: &mut Draw, n: usize, m: usize) -> Vec<Link> {
 
 /// Nearly all pairs among as many members as the limit of links allows.
 fn dense(draw: &mut Draw, n: usize, m: usize) -> Vec<Link> {
-    let side = m.isqrt() + 2;
+    let side = root(m) + 2;
     grid(n, (side, side), (0, 0), |_, _| !draw.one_in(10))
 }
 
@@ -176,7 +175,7 @@ fn star_in(draw: &mut Draw, n: usize, m: usize) -> Vec<Link> {
 /// A dense pair of groups among scattered links.
 fn planted_pair(draw: &mut Draw, n: usize, m: usize) -> Vec<Link> {
     let half = m / 2;
-    let vouchers = draw.among(1, half.isqrt().max(1));
+    let vouchers = draw.among(1, root(half).max(1));
     let corner = (draw.below(n), draw.below(n));
     let size = (vouchers, half / vouchers);
     let mut links = grid(n, size, corner, |_, _| !draw.one_in(8));
@@ -187,12 +186,12 @@ fn planted_pair(draw: &mut Draw, n: usize, m: usize) -> Vec<Link> {
 /// All pairs of two groups that overlap or do not: 90 by 90 at full size.
 fn block(draw: &mut Draw, n: usize, m: usize) -> Vec<Link> {
     let corner = (draw.below(n), draw.below(n));
-    grid(n, (m.isqrt(), m.isqrt()), corner, |_, _| true)
+    grid(n, (root(m), root(m)), corner, |_, _| true)
 }
 
 /// Each voucher has one link fewer than the one before it: many levels.
 fn staircase(_: &mut Draw, n: usize, m: usize) -> Vec<Link> {
-    let side = (2 * m).isqrt().min(n);
+    let side = root(2 * m).min(n);
     grid(n, (side, side), (0, n / 2), |a, b| a + b < side)
 }
 
@@ -215,7 +214,7 @@ fn equal_products(draw: &mut Draw, n: usize, m: usize) -> Vec<Link> {
     let area: usize = draw.pick(&[2, 4, 6, 12, 36, 60, 120, 360]);
     let mut links = Vec::new();
     let mut corner = (0, 0);
-    for x in (1..=area).filter(|&x| area.is_multiple_of(x)) {
+    for x in (1..=area).filter(|&x| area % x == 0) {
         let size = (area / x, x);
         if links.len() + area <= m && corner.0 + size.0 <= n && corner.1 + size.1 <= n {
             links.extend(grid(n, size, corner, |_, _| true));
@@ -242,7 +241,7 @@ fn ladder(draw: &mut Draw, n: usize, _: usize) -> Vec<Link> {
 /// Blocks inside larger and thinner ones.
 fn nested_blocks(draw: &mut Draw, n: usize, m: usize) -> Vec<Link> {
     let mut links = Vec::new();
-    let mut side = m.isqrt() / 2;
+    let mut side = root(m) / 2;
     while side > 0 {
         let one_in = draw.among(1, 4);
         let size = (side * one_in, side);
@@ -254,7 +253,7 @@ fn nested_blocks(draw: &mut Draw, n: usize, m: usize) -> Vec<Link> {
 
 /// Many links among few members; the others have none.
 fn few_members(draw: &mut Draw, n: usize, m: usize) -> Vec<Link> {
-    let few = draw.among(1, n.min(m.isqrt() + 1));
+    let few = draw.among(1, n.min(root(m) + 1));
     let corner = draw.below(n);
     grid(n, (few, few), (corner, corner), |_, _| draw.one_in(2))
 }

@@ -6,7 +6,6 @@
 mod calls;
 mod case;
 mod damage;
-mod draw;
 mod enumerate;
 mod indexes;
 mod kinds;
@@ -142,7 +141,7 @@ fn run() -> Result<Tally, String> {
     let arguments: Vec<String> = env::args().skip(1).collect();
     let seed = env::var("SEED").map_or(Ok(SEED), |text| parse(&text))?;
     let only = arguments.get(1).map(|text| parse(text)).transpose()?;
-    let asked = |part: &&Part| arguments.first().is_none_or(|name| name == part.name);
+    let asked = |part: &&Part| arguments.first().map_or(true, |name| name == part.name);
     let parts: Vec<&Part> = PARTS.iter().filter(asked).collect();
     if parts.is_empty() {
         let names = PARTS.map(|part| part.name).join(", ");

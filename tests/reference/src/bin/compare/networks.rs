@@ -2,7 +2,8 @@
 use crate::calls::try_all;
 use crate::case::Case;
 use crate::kinds::{network, Kind, KINDS};
-use reference::{encode, Network, LINKS, MEMBERS};
+use networks::{encode, Network};
+use reference::{LINKS, MEMBERS};
 
 /// Makes the case's file: of a kind, with n members and at most m links.
 fn set_file(case: &mut Case, kind: &Kind, n: usize, m: usize) -> Network {
@@ -30,7 +31,7 @@ pub fn medium_file(case: &mut Case) {
 
 /// The greatest n and m in every second round of the kinds, else somewhat fewer.
 pub fn full_file(case: &mut Case) {
-    let greatest = (case.turn / KINDS.len() as u64).is_multiple_of(2);
+    let greatest = case.turn / (KINDS.len() as u64) % 2 == 0;
     let (fewest_n, fewest_m) = if greatest {
         (MEMBERS, LINKS)
     } else {

@@ -1,9 +1,10 @@
-//! The numbers 9 and 11 to 13 alone, together, and together with each of 1 to 8: the lowest refuses.
+//! The numbers 9 and 11 to 13 alone, together, and together with each of 1 to 8: the first in order refuses.
 use crate::case::Case;
 use crate::damage::{faulty_file, FILE_FAULTS};
 use crate::networks::roomy_network;
 use cogsplice::lent;
-use reference::{file_length, work_length, Network};
+use networks::Network;
+use reference::{file_length, first_of, work_length};
 
 /// The tables of one network, each of exactly the length needed or one short.
 struct Tables {
@@ -152,8 +153,8 @@ pub fn order(case: &mut Case) {
     }
 }
 
-/// One call: the file's fault comes first, then 9 where a table is short, then the call's own number without and with the faulty
-/// argument.
+/// One call: of the file's fault, 9 where a table is short, and the call's own number without and with the faulty argument, the first
+/// in order is given.
 fn try_call(case: &mut Case, network: &Network, call: &Call, fault: u16, own: [u16; 2]) {
     for faulty in [false, true] {
         for short in 0..=call.shorten.len() {
@@ -161,11 +162,8 @@ fn try_call(case: &mut Case, network: &Network, call: &Call, fault: u16, own: [u
             if short > 0 {
                 call.shorten[short - 1](&mut tables);
             }
-            let expected = match (fault, short) {
-                (0, 0) => own[faulty as usize],
-                (0, _) => 9,
-                _ => fault,
-            };
+            let of_table = if short > 0 { 9 } else { 0 };
+            let expected = first_of(&[fault, of_table, own[faulty as usize]]);
             let given = (call.refusal)(&case.file, &mut tables, faulty);
             let name = call.name;
             let call = || format!("{name}: fault {fault}, table {short} short, faulty {faulty}");

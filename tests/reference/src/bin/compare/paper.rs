@@ -1,29 +1,17 @@
 //! The examples and limits that 01 names, by the reference and by the library.
 use crate::calls::try_all;
 use crate::case::Case;
+use crate::damage::EMPTY;
 use cogsplice::lent::{self, FindingNumbers, LevelNumbers, TotalsNumbers};
-use reference::{encode, report, work_length, Link, Network};
-
-const W: [Link; 8] = [
-    (0, 3),
-    (0, 4),
-    (1, 3),
-    (1, 4),
-    (2, 3),
-    (2, 4),
-    (4, 5),
-    (5, 5),
-];
+use networks::{encode, Link, Network};
+use reference::{report, work_length};
 
 /// What 01 prints for network W.
 const W_REPORT: &str = "x 2 y 3 equal 2\nlinks 6 vouchers 3 vouched 2\nS 0 1 2\nT 3 4\n";
 
 fn set(case: &mut Case, kind: &str, n: usize, links: &[Link]) {
     case.kind = kind.into();
-    case.file = encode(&Network {
-        n,
-        links: links.to_vec(),
-    });
+    case.file = encode(&Network::new(n, links));
 }
 
 /// The members of a group.
@@ -35,7 +23,8 @@ fn members(group: &[u8]) -> Vec<usize> {
 
 /// Network W.
 pub fn example_file(case: &mut Case) {
-    set(case, "W", 6, &W);
+    case.kind = "W".into();
+    case.file = encode(&Network::w());
 }
 
 pub fn paper(case: &mut Case) {
@@ -128,7 +117,7 @@ fn expect_finding(case: &mut Case, numbers: [usize; 4], s: &[usize], t: &[usize]
     case.compare(|| "finding".into(), &wanted, &(given, groups));
 }
 
-/// P9 and the limits of n, m and a link's members.
+/// P9, no bytes at all, and the limits of n, m and a link's members.
 fn expect_limits(case: &mut Case) {
     let links = |m: usize| -> Vec<Link> { (0..m).map(|i| (i % 2048, i / 2048)).collect() };
     expect_check(case, (0, 0), 1, &[]);
@@ -141,6 +130,11 @@ fn expect_limits(case: &mut Case) {
     expect_check(case, (7, 0), 0, &[(0, 0)]);
     expect_check(case, (8, 2), 3, &[(1, 2), (2, 1), (1, 2), (2, 1)]);
     expect_check(case, (7, 3), 3, &[(1, 2), (1, 2), (0, 0), (3, 0)]);
+    case.kind = "no bytes".into();
+    case.file = Vec::new();
+    let given = lent::check(&case.file).refusal;
+    case.compare(|| "check of no bytes".into(), EMPTY, given);
+    try_all(case);
     set(case, "P9", 1, &[]);
     let found = lent::finding(&case.file, &mut [0], &mut [0], &mut [0; 8]).refusal;
     case.compare(|| "finding without links".into(), 13, found);

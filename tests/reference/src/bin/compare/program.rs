@@ -1,9 +1,9 @@
 //! The report program, fed through a pipe in pieces.
 use crate::case::Case;
 use crate::damage::{changed_file, faulty_file, FILE_FAULTS};
-use crate::draw::Draw;
 use crate::networks::{full_file, largest_file, medium_file, roomy_network, small_file};
 use crate::paper::example_file;
+use networks::Draw;
 use reference::{report, INPUT};
 use std::env;
 use std::io::{ErrorKind, Result, Write};

@@ -1,13 +1,13 @@
 //! Rows of tables that no index filled.
 use crate::case::Case;
-use crate::draw::Draw;
 use crate::indexes::{try_row, Index};
 use cogsplice::{lent, Side};
+use networks::Draw;
 
 /// Starts, the length of the rows, a member, and the number that refuses its row.
 type Example = (&'static [u16], usize, usize, u16);
 
-/// The numbers 9, 10 and 14 alone and together: the lowest refuses.
+/// The numbers 9, 10 and 14 alone and together: the first in order refuses.
 const EXAMPLES: [Example; 18] = [
     (&[], 0, 0, 9),
     (&[], 4, 0, 9),

@@ -1,5 +1,5 @@
 //! Lent tables.
-use crate::draw::Draw;
+use networks::Draw;
 
 /// Entries before and behind each lent table.
 const GUARD: usize = 4;

@@ -1,6 +1,5 @@
 //! The networks that are measured, the same in every run.
-
-type Link = (usize, usize);
+use networks::{encode, Draw, Link, Network};
 
 /// A network file and what it is called in the tables.
 pub struct Input {
@@ -14,54 +13,24 @@ pub struct Input {
 }
 
 impl Input {
-    fn new(name: &str, n: usize, links: &[Link], random: &mut Random) -> Self {
+    fn new(name: &str, network: &Network, random: &mut Draw) -> Self {
+        let n = network.n;
         let mut group = || (0..n).map(|_| random.below(2) as u8).collect();
         Self {
             name: name.to_string(),
             n,
-            m: links.len(),
-            file: file_of(n, links),
+            m: network.links.len(),
+            file: encode(network),
             s: group(),
             t: group(),
         }
     }
 }
 
-fn file_of(n: usize, links: &[Link]) -> Vec<u8> {
-    let mut file = b"VCH".to_vec();
-    let ends = links.iter().flat_map(|&(source, target)| [source, target]);
-    for number in [1, n, links.len()].into_iter().chain(ends) {
-        file.extend((number as u16).to_le_bytes());
-    }
-    file
-}
-
-/// The generator splitmix64.
-struct Random(u64);
-
-impl Random {
-    fn next(&mut self) -> u64 {
-        self.0 = self.0.wrapping_add(0x9e37_79b9_7f4a_7c15);
-        let mixed = (self.0 ^ (self.0 >> 30)).wrapping_mul(0xbf58_476d_1ce4_e5b9);
-        let mixed = (mixed ^ (mixed >> 27)).wrapping_mul(0x94d0_49bb_1331_11eb);
-        mixed ^ (mixed >> 31)
-    }
-
-    fn below(&mut self, end: usize) -> usize {
-        (self.next() % end as u64) as usize
-    }
-
-    /// A member below `end`, member a with a chance that falls as a^(-2/3).
-    fn leaning(&mut self, end: usize) -> usize {
-        let uniform = self.next() as f64 / (u64::MAX as f64 + 1.0);
-        ((uniform.powi(3) * end as f64) as usize).min(end - 1)
-    }
-
-    fn shuffle(&mut self, links: &mut [Link]) {
-        for last in (1..links.len()).rev() {
-            links.swap(last, self.below(last + 1));
-        }
-    }
+/// A member below `end`, member a with a chance that falls as a^(-2/3).
+fn leaning(random: &mut Draw, end: usize) -> usize {
+    let uniform = random.number() as f64 / (u64::MAX as f64 + 1.0);
+    ((uniform.powi(3) * end as f64) as usize).min(end - 1)
 }
 
 /// Adds drawn links that are not there yet, up to m in all.
@@ -78,15 +47,17 @@ fn fill(links: &mut Vec<Link>, n: usize, m: usize, mut draw: impl FnMut() -> Lin
     }
 }
 
-fn uniform(n: usize, m: usize, random: &mut Random) -> Vec<Link> {
+fn uniform(n: usize, m: usize, random: &mut Draw) -> Vec<Link> {
     let mut links = Vec::new();
     fill(&mut links, n, m, || (random.below(n), random.below(n)));
     links
 }
 
-fn power_law(n: usize, m: usize, random: &mut Random) -> Vec<Link> {
+fn power_law(n: usize, m: usize, random: &mut Draw) -> Vec<Link> {
     let mut links = Vec::new();
-    fill(&mut links, n, m, || (random.leaning(n), random.leaning(n)));
+    fill(&mut links, n, m, || {
+        (leaning(random, n), leaning(random, n))
+    });
     random.shuffle(&mut links);
     links
 }
@@ -99,7 +70,7 @@ fn block(half: usize) -> Vec<Link> {
 
 /// Member i, counted from 1, vouches for the first area / i members: for every x up to the root of the area no core of a greater
 /// y is non-empty than that of about area / x, and all these products are nearly equal.
-fn staircase(area: usize, random: &mut Random) -> Vec<Link> {
+fn staircase(area: usize, random: &mut Draw) -> Vec<Link> {
     let row = |source| (0..area / (source + 1)).map(move |target| (source, target));
     let mut links: Vec<Link> = (0..area).flat_map(row).collect();
     random.shuffle(&mut links);
@@ -107,7 +78,7 @@ fn staircase(area: usize, random: &mut Random) -> Vec<Link> {
 }
 
 /// Members 0 to 39 vouch for nearly all of the members 100 to 129, and the other links are random.
-fn planted(n: usize, m: usize, random: &mut Random) -> Vec<Link> {
+fn planted(n: usize, m: usize, random: &mut Draw) -> Vec<Link> {
     let pairs = (0..40).flat_map(|source| (100..130).map(move |target| (source, target)));
     let mut links: Vec<Link> = pairs.filter(|_| random.below(10) > 0).collect();
     fill(&mut links, n, m, || (random.below(n), random.below(n)));
@@ -115,7 +86,7 @@ fn planted(n: usize, m: usize, random: &mut Random) -> Vec<Link> {
     links
 }
 
-fn star_out(n: usize, random: &mut Random) -> Vec<Link> {
+fn star_out(n: usize, random: &mut Draw) -> Vec<Link> {
     let mut links: Vec<Link> = (1..n).map(|target| (0, target)).collect();
     random.shuffle(&mut links);
     links
@@ -128,7 +99,7 @@ fn reversed(links: &[Link]) -> Vec<Link> {
 
 /// Networks of many shapes.
 pub fn shapes() -> Vec<Input> {
-    let random = &mut Random(1);
+    let random = &mut Draw::new(1);
     let links = uniform(2048, 8192, random);
     let mut ascending = links.clone();
     ascending.sort_unstable();
@@ -149,18 +120,19 @@ pub fn shapes() -> Vec<Input> {
     ];
     let inputs = networks.into_iter();
     inputs
-        .map(|(name, n, links)| Input::new(name, n, &links, random))
+        .map(|(name, n, links)| Input::new(name, &Network { n, links }, random))
         .collect()
 }
 
 /// Random networks, each of twice the size of the one before.
 pub fn growing() -> Vec<Input> {
-    let random = &mut Random(2);
+    let random = &mut Draw::new(2);
     let sizes = [512, 1024, 2048, 4096, 8192];
     sizes
         .map(|m| {
-            let links = uniform(m / 4, m, random);
-            Input::new(&format!("random, m = {m}"), m / 4, &links, random)
+            let n = m / 4;
+            let links = uniform(n, m, random);
+            Input::new(&format!("random, m = {m}"), &Network { n, links }, random)
         })
         .into()
 }

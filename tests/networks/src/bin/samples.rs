@@ -1,0 +1,54 @@
+//! Writes the networks of the folder `samples` into the folder that is named:
+//! `cargo run --manifest-path tests/networks/Cargo.toml samples`.
+use networks::{encode, Draw, Link, Network};
+use std::collections::HashSet;
+use std::path::Path;
+use std::{env, fs};
+
+fn network(n: usize, links: &[Link]) -> Vec<u8> {
+    encode(&Network::new(n, links))
+}
+
+/// A network of full size: each of 30 vouchers vouches for each of 40 members, and all other links are random.
+fn planted_ring() -> Vec<u8> {
+    let (n, m) = (2048, 8192);
+    let mut links: Vec<Link> = (0..30)
+        .flat_map(|i| (0..40).map(move |j| (61 * i + 7, 43 * j + 11)))
+        .collect();
+    let mut seen: HashSet<_> = links.iter().copied().collect();
+    let mut draw = Draw::new(2026);
+    while links.len() < m {
+        let link = (draw.below(n), draw.below(n));
+        if seen.insert(link) {
+            links.push(link);
+        }
+    }
+    network(n, &links)
+}
+
+/// Network W with one byte changed.
+fn changed(at: usize, byte: u8) -> Vec<u8> {
+    let mut file = encode(&Network::w());
+    file[at] = byte;
+    file
+}
+
+fn main() {
+    let folder = env::args().nth(1).expect("the folder to write into");
+    let write = |name: &str, file: &[u8]| {
+        let path = Path::new(&folder).join(name).with_extension("vch");
+        fs::write(path, file).expect("the folder can be written");
+    };
+    let w = encode(&Network::w());
+    write("w", &w);
+    write("star", &network(4, &[(0, 1), (0, 2), (0, 3)]));
+    write("tie", &network(6, &[(0, 1), (0, 2), (3, 5), (4, 5)]));
+    write("planted-ring", &planted_ring());
+    write("empty", &network(0, &[]));
+    write("damaged-short", &w[..8]);
+    write("damaged-mark", &changed(2, b'K'));
+    write("damaged-version", &changed(3, 3));
+    write("damaged-length", &w[..40]);
+    write("damaged-end", &changed(9 + 4 * 2 + 2, 6));
+    write("damaged-repeat", &changed(9 + 4 * 3 + 2, 3));
+}
