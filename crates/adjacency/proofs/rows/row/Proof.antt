@@ -1,4 +1,4 @@
--- `row` meets its contract: the side chooses the tables, and `row_of` does the rest. Assumes nothing.
+-- `row` meets its contract: the side chooses the tables, and `row_of` does the rest.
 use borrow.Author.Needs.{needs}
 use Rattle.adjacency.proofs.rows.row.Statement.{statement}
 use Rattle.adjacency.proofs.rows.row.Tie as tie

@@ -1,5 +1,4 @@
 -- `row_number` meets its contract: each way out of the code is one outcome of `rowRefusal`, and the tests passed on the way decide it.
--- Assumes nothing.
 use native.Mathlib.Omega.{arith}
 use borrow.Author.Needs.{needs}
 use Rattle.adjacency.proofs.Refusals.{named, no-starts, no-vertex, descending, outside-rows, row-accepted}

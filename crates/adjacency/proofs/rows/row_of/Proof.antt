@@ -1,5 +1,5 @@
 -- `row_of` meets its contract: a refusal that is not 0 is not `none`, and past that test the two starts lie in the tables, in order, so
--- that the part from one to the other is the row. Assumes nothing.
+-- that the part from one to the other is the row.
 use mathlib.Core.Path.{refl, ap, _∙_}
 use native.Mathlib.Omega.{arith}
 use borrow.Author.Needs.{needs}

@@ -1,4 +1,4 @@
--- `row_refusal` meets its contract: the side chooses the tables, and `row_number` does the rest. Assumes nothing.
+-- `row_refusal` meets its contract: the side chooses the tables, and `row_number` does the rest.
 use borrow.Author.Needs.{needs}
 use Rattle.adjacency.proofs.rows.row_refusal.Statement.{statement}
 use Rattle.adjacency.proofs.rows.row_refusal.Tie as tie

@@ -1,4 +1,4 @@
--- `names_link` meets its contract: where the first test holds the second is not made. Assumes nothing.
+-- `names_link` meets its contract: where the first test holds the second is not made.
 use borrow.Author.Tests.{eq-eqb, ne-eqb}
 use Rattle.network.proofs.refusals.names_link.Statement.{statement}
 use Rattle.network.proofs.refusals.names_link.Tie as tie

@@ -1,5 +1,5 @@
 -- `put_bytes` meets its contract. The loop's invariant: the first i bytes of the text stand in the buffer, and it is as long as it was.
--- The measure is what is left of the text. Assumes nothing.
+-- The measure is what is left of the text.
 use Prim.Native.Nat.{_≤_, _-_}
 use mathlib.Core.Path.{_≡_, refl}
 use native.Mathlib.Omega.{arith}

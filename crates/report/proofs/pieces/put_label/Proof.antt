@@ -1,4 +1,4 @@
--- `put_label` meets its contract: the word and the spaced number are laid in a row. Assumes nothing.
+-- `put_label` meets its contract: the word and the spaced number are laid in a row.
 use native.Mathlib.Omega.{arith}
 use borrow.Author.Needs.{needs}
 use lib.ListN.{length-append}

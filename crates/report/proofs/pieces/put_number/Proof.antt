@@ -1,4 +1,4 @@
--- `put_number` meets its contract: the digits that `io::decimal` gives are the number in decimal. Assumes nothing.
+-- `put_number` meets its contract: the digits that `io::decimal` gives are the number in decimal.
 use mathlib.Core.Path.{_≡_, _∙_}
 use borrow.Author.Needs.{needs}
 use lib.ListN.{take}

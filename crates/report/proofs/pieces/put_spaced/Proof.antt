@@ -1,4 +1,4 @@
--- `put_spaced` meets its contract: the space and the number are laid in a row. Assumes nothing.
+-- `put_spaced` meets its contract: the space and the number are laid in a row.
 use native.Mathlib.Omega.{arith}
 use borrow.Author.Needs.{needs}
 use Rattle.report.proofs.Puts.{put-then}

@@ -1,4 +1,4 @@
--- `put_link` meets its contract: what `names_link` answers is the test by which the text goes. Assumes nothing.
+-- `put_link` meets its contract: what `names_link` answers is the test by which the text goes.
 use mathlib.Core.Path.{_≡_, sym, _∙_}
 use borrow.Author.Needs.{needs}
 use Rattle.report.specs.Text.{ascii, label, linkText}

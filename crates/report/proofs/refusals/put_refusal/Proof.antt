@@ -1,5 +1,5 @@
 -- `put_refusal` meets its contract: the number, the link and the line's end are laid in a row, and no such line is longer than the
--- buffer. Assumes nothing.
+-- buffer.
 use Prim.Native.Nat.{_+_, _≤_}
 use mathlib.Core.Path.{ap}
 use native.Mathlib.Omega.{arith}

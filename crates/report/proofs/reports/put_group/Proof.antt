@@ -1,4 +1,4 @@
--- `put_group` meets its contract: the letter, the members and the line's end are laid in a row. Assumes nothing.
+-- `put_group` meets its contract: the letter, the members and the line's end are laid in a row.
 use native.Mathlib.Omega.{arith}
 use borrow.Author.Needs.{needs}
 use lib.ListN.{length-append}

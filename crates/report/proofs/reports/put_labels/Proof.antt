@@ -1,4 +1,4 @@
--- `put_labels` meets its contract: the three labels and the line's end are laid in a row. Assumes nothing.
+-- `put_labels` meets its contract: the three labels and the line's end are laid in a row.
 use Prim.Native.Nat.{_+_, _≤_}
 use native.Mathlib.Omega.{arith}
 use borrow.Author.Needs.{needs}

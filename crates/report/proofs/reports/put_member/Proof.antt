@@ -1,4 +1,4 @@
--- `put_member` meets its contract: the test of the byte is the one by which the text goes. Assumes nothing.
+-- `put_member` meets its contract: the test of the byte is the one by which the text goes.
 use borrow.Author.Needs.{needs}
 use borrow.Author.Tests.{eq-eqb, ne-eqb}
 use Rattle.report.proofs.Puts.{put-none}

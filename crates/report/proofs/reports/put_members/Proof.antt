@@ -1,5 +1,5 @@
 -- `put_members` meets its contract. The loop's invariant: the members below u stand in the buffer, and it is as long as it was. The
--- measure is how many numbers are left. Assumes nothing.
+-- measure is how many numbers are left.
 use Prim.Native.Nat.{_≤_, _-_}
 use mathlib.Core.Path.{_≡_, refl}
 use native.Mathlib.Numerals.{add-one}

@@ -1,4 +1,4 @@
--- `put_numbers` meets its contract: its two lines are laid in a row. Assumes nothing.
+-- `put_numbers` meets its contract: its two lines are laid in a row.
 use native.Mathlib.Omega.{arith}
 use borrow.Author.Needs.{needs}
 use lib.ListN.{length-append}
