@@ -3,7 +3,7 @@ use Prim.Native.Nat.{ℕ, zero, suc, _*_, _≤_}
 use mathlib.Core.Logic.{⊎-elim}
 use mathlib.Core.Path.{_≡_, sym, ap, _∙_}
 use native.Mathlib.Decide.{decLe}
-use native.Mathlib.Nat.{le-antisymm, eq-or-lt-of-le, eq-of-mul-eq-mul-left}
+use native.Mathlib.Nat.{le-antisymm, eq-or-lt-of-le, eq-zero-or-pos, eq-of-mul-eq-mul-left}
 use native.Mathlib.Omega.{arith}
 use Rattle.graph.specs.Graph.{Graph, Group, card}
 use Rattle.graph.specs.Shapes.{Closed, total, Same}
@@ -31,6 +31,13 @@ greatest-exists {P} d (suc n) h = go (d (suc n)) (greatest-exists d n)
     go : Dec (P (suc n)) → (((j : ℕ) → P j → j ≤ n) → (k : ℕ) × Greatest P k) → (k : ℕ) × Greatest P k
     go (yes p) rec = (suc n, record { holds = λ q. p; above = λ j i q. h j q })
     go (no p) rec = rec (λ j q. ⊎-elim (λ e. absurd (p (rw e at q))) (λ l. omega arith) (eq-or-lt-of-le (h j q)))
+
+-- and no other
+pub greatest-unique : {P : ℕ → Type 0} {k k′ : ℕ} → Greatest P k → Greatest P k′ → k ≡ k′
+greatest-unique {P} {k} {k′} a b = le-antisymm (below a b) (below b a)
+  where
+    below : {k k′ : ℕ} → Greatest P k → Greatest P k′ → k ≤ k′
+    below {k} a b = ⊎-elim (λ e. rw e (omega arith)) (λ p. b .above k p (a .holds p)) (eq-zero-or-pos k)
 
 -- so there is the level of each x,
 pub level-exists : {g : Graph} → Closed g → (x : ℕ) → (y : ℕ) × Level g x y
