@@ -38,6 +38,7 @@ extern "C" {
 #define COGSPLICE_GROUP(n) ((size_t)(n))                                  /* uint8_t: S, T */
 #define COGSPLICE_STARTS(n) ((size_t)(n) + 1)                             /* uint16_t: out_starts, in_starts */
 #define COGSPLICE_ROWS(m) ((size_t)(m))                                   /* uint16_t: out_rows, in_rows */
+#define COGSPLICE_LAYERS(m) ((size_t)(m))                                 /* uint16_t: layers */
 #define COGSPLICE_WORK(n, m) (2 * (size_t)(m) + 6 * (size_t)(n) + 2)      /* uint16_t: work; the call's to use, its contents mean nothing */
 
 enum {
@@ -54,7 +55,7 @@ enum {
     COGSPLICE_REFUSED_MEMBER = 10,  /* row: the member is not below n */
     COGSPLICE_REFUSED_GROUP = 11,   /* count: a byte among the first n of a group is neither 0 nor 1 */
     COGSPLICE_REFUSED_ZERO = 12,    /* level, level across: asked for 0 */
-    COGSPLICE_REFUSED_LINKLESS = 13,/* finding: the file has no link */
+    COGSPLICE_REFUSED_LINKLESS = 13,/* finding, layers: the file has no link */
     COGSPLICE_REFUSED_ROW = 14      /* row: the member's start is above the next start, or that is above the length of the rows table */
 };
 
@@ -97,6 +98,11 @@ struct cogsplice_finding_numbers {
     uint32_t edges;          /* E(S,T) */
     size_t x, y, equal;      /* the finding is the [x,y]-core; equal is the equal level */
     size_t sources, targets; /* |S| and |T| */
+};
+
+struct cogsplice_layers_numbers {
+    uint16_t refusal, link;
+    size_t layers; /* K, the number of layers */
 };
 
 /* n and m of a file. Refusals 1 to 8, as in every call on a file. */
@@ -174,6 +180,16 @@ struct cogsplice_finding_numbers cogsplice_finding(
     const uint8_t *file, size_t file_length,
     uint8_t *s, size_t s_length,
     uint8_t *t, size_t t_length,
+    uint16_t *work, size_t work_length);
+
+/* Takes the links between the two groups of the finding out, searches what remains, and goes on until no link remains. Writes the
+ * layer of each link, counted from 1, into the first COGSPLICE_LAYERS(m) entries of layers, in the order of the file. Each link has
+ * one layer from 1 to K: layer l is, of the links still in at its start, those between the two groups of their finding. The layers' E
+ * add up to m, and x * y never rises from a layer to the next. In each layer the finding's bound holds over the links still in at its
+ * start: for all non-empty S and T, E(S,T) squared is at most 4 * x * y * |S| * |T|. Refusals 1 to 8, 9, 13. */
+struct cogsplice_layers_numbers cogsplice_layers(
+    const uint8_t *file, size_t file_length,
+    uint16_t *layers, size_t layers_length,
     uint16_t *work, size_t work_length);
 
 /* Whether two findings are equal: x1, y1 of one and x2, y2 of the other. */

@@ -17,7 +17,7 @@ static const uint8_t nobody[] = {'V', 'C', 'H', 1, 0, 0, 0, 0, 0};
 #define ALL(table) table, sizeof table / sizeof *table
 
 static uint8_t s[6], t[6], out[COGSPLICE_FILE(8)];
-static uint16_t starts[7], other_starts[7], rows[8], other_rows[8], work[COGSPLICE_WORK(6, 8)];
+static uint16_t starts[7], other_starts[7], rows[8], other_rows[8], layers[COGSPLICE_LAYERS(8)], work[COGSPLICE_WORK(6, 8)];
 static int faults;
 
 static void expect(const char *call, unsigned refusal, unsigned given) {
@@ -39,6 +39,7 @@ static void no_file(void) {
     EXPECT(1, cogsplice_level_across(NONE, 1, ALL(work)));
     EXPECT(1, cogsplice_equal_level(NONE, ALL(work)));
     EXPECT(1, cogsplice_finding(NONE, ALL(s), ALL(t), ALL(work)));
+    EXPECT(1, cogsplice_layers(NONE, ALL(layers), ALL(work)));
 }
 
 static void no_table(void) {
@@ -58,14 +59,17 @@ static void no_table(void) {
     EXPECT(9, cogsplice_finding(W, NONE, ALL(t), ALL(work)));
     EXPECT(9, cogsplice_finding(W, ALL(s), NONE, ALL(work)));
     EXPECT(9, cogsplice_finding(W, ALL(s), ALL(t), NONE));
+    EXPECT(9, cogsplice_layers(W, NONE, ALL(work)));
+    EXPECT(9, cogsplice_layers(W, ALL(layers), NONE));
 }
 
-/* Of a network without members and links, groups and rows of no entries are long enough. */
+/* Of a network without members and links, groups, rows and layers of no entries are long enough. */
 static void enough(void) {
     EXPECT(0, cogsplice_count(NOBODY, NONE, NONE));
     EXPECT(0, cogsplice_index(NOBODY, ALL(starts), NONE, ALL(other_starts), NONE));
     EXPECT(0, cogsplice_core(NOBODY, 1, 1, NONE, NONE, ALL(work)));
     EXPECT(13, cogsplice_finding(NOBODY, NONE, NONE, ALL(work)));
+    EXPECT(13, cogsplice_layers(NOBODY, NONE, ALL(work)));
 }
 
 static void row(unsigned refusal, bool side, const uint16_t *table, size_t length) {

@@ -97,6 +97,19 @@ fn reversed(links: &[Link]) -> Vec<Link> {
     links.iter().map(turn).collect()
 }
 
+/// Stars of every size up to `most`, one out and one in of each, that share no place: two layers for each size from 2 on.
+fn stars(most: usize, random: &mut Draw) -> Vec<Link> {
+    let leaves = most * (most + 1) / 2;
+    let star = |size: usize| {
+        let first = size * (size - 1) / 2;
+        (first..first + size).map(move |leaf| (leaves + size - 1, leaf))
+    };
+    let mut links: Vec<Link> = (1..=most).flat_map(star).collect();
+    links.extend(reversed(&links));
+    random.shuffle(&mut links);
+    links
+}
+
 /// Networks of many shapes.
 pub fn shapes() -> Vec<Input> {
     let random = &mut Draw::new(1);
@@ -117,6 +130,7 @@ pub fn shapes() -> Vec<Input> {
             2048,
             planted(2048, 8192, random),
         ),
+        ("stars of 1 to 62, out and in", 2015, stars(62, random)),
     ];
     let inputs = networks.into_iter();
     inputs

@@ -22,9 +22,10 @@ impl Times {
     }
 }
 
-/// A network and the times of all calls on it.
+/// A network, the number of its layers and the times of all calls on it.
 pub struct Measured {
     pub input: Input,
+    pub layers: usize,
     pub times: [Times; Call::ALL.len()],
 }
 
@@ -41,8 +42,13 @@ pub fn measure(input: Input) -> Measured {
     let mut plain = PlainRust::new(&input);
     compare(&mut library, &mut plain, &input);
     compare_refusals(&mut library, &mut plain, &input);
+    let [_, _, layers, ..] = plain.call(Call::Layers, &input.file, &input);
     let times = Call::ALL.map(|call| time(&mut library, &mut plain, call, &input));
-    Measured { input, times }
+    Measured {
+        input,
+        layers,
+        times,
+    }
 }
 
 /// Every call on both sides: the same answer, and in the end the same tables.

@@ -5,7 +5,7 @@ mod network;
 mod peel;
 
 use chunks::chunks_mut;
-use network::{fill_starts, next_place, source, target, Network, Sorter, HEADER_LENGTH};
+use network::{fill_starts, next_place, source, target, Link, Network, Sorter, HEADER_LENGTH};
 use peel::{Need, Peel, Rise};
 
 /// A refusal's number, and the link's number for the refusals that name one.
@@ -31,6 +31,14 @@ impl Refusal {
         }
         Ok(())
     }
+
+    /// Refusal 13 unless there is a link.
+    fn of_no_link(links: &[Link]) -> Result<(), Self> {
+        if links.is_empty() {
+            return Err(Self::of(13));
+        }
+        Ok(())
+    }
 }
 
 /// The four tables of an index.
@@ -47,6 +55,8 @@ pub struct Plain {
     sorter: Sorter,
     peel: Peel,
     ends: Vec<u16>,
+    /// The numbers of the links that no layer has yet, ascending.
+    left: Vec<u16>,
 }
 
 impl Plain {
@@ -110,9 +120,9 @@ impl Plain {
         s: &mut [u8],
         t: &mut [u8],
     ) -> Result<[usize; 3], Refusal> {
-        let network = self.sorter.accept(file)?;
-        Refusal::of_tables(&[(s.len(), network.n), (t.len(), network.n)])?;
-        self.peel.load(network);
+        let Network { n, links, .. } = self.sorter.accept(file)?;
+        Refusal::of_tables(&[(s.len(), n), (t.len(), n)])?;
+        self.peel.load(n, links.iter());
         Ok(self.peel.core(Need { x, y }, s, t))
     }
 
@@ -123,17 +133,42 @@ impl Plain {
         s: &mut [u8],
         t: &mut [u8],
     ) -> Result<[usize; 6], Refusal> {
-        let network = self.sorter.accept(file)?;
-        Refusal::of_tables(&[(s.len(), network.n), (t.len(), network.n)])?;
-        if network.links.is_empty() {
-            return Err(Refusal::of(13));
-        }
-        self.peel.load(network);
-        let equal = self.peel.climb(Rise::Both, 0, 1);
-        let best = search(&mut self.peel, equal);
+        let Network { n, links, .. } = self.sorter.accept(file)?;
+        Refusal::of_tables(&[(s.len(), n), (t.len(), n)])?;
+        Refusal::of_no_link(links)?;
+        self.peel.load(n, links.iter());
+        let (equal, best) = search(&mut self.peel);
         let [edges, sources, targets] = self.peel.core(best, s, t);
         let [x, y, equal] = [best.x, best.y, equal].map(usize::from);
         Ok([x, y, equal, edges, sources, targets])
+    }
+
+    /// Writes the layer of each link and returns the number of layers. A layer is the links between the groups of the finding among
+    /// the links that are left.
+    pub fn layers(&mut self, file: &[u8], layers: &mut [u16]) -> Result<[usize; 1], Refusal> {
+        let Network { n, links, .. } = self.sorter.accept(file)?;
+        Refusal::of_tables(&[(layers.len(), links.len())])?;
+        Refusal::of_no_link(links)?;
+        let Self { peel, left, .. } = self;
+        left.clear();
+        left.extend(0..links.len() as u16);
+        let mut layer = 0;
+        while !left.is_empty() {
+            peel.load(n, left.iter().map(|&number| &links[usize::from(number)]));
+            let (_, best) = search(peel);
+            peel.peel(best);
+            layer += 1;
+            let between = peel.between(best);
+            left.retain(|&number| {
+                let number = usize::from(number);
+                let taken = between(links[number]);
+                if taken {
+                    layers[number] = layer;
+                }
+                !taken
+            });
+        }
+        Ok([layer.into()])
     }
 }
 
@@ -150,11 +185,17 @@ fn size_of(group: &[u8]) -> usize {
     group.iter().map(|&byte| usize::from(byte)).sum()
 }
 
-/// The best [x,y]: each x up to the equal level with its greatest y, then each y with its greatest x.
-fn search(peel: &mut Peel, equal: u16) -> Need {
+/// The equal level and the best [x,y]: each x up to the equal level with its greatest y, then each y with its greatest x. What could only
+/// begin past the longest row of the side that rises is not climbed, since every core is empty there.
+fn search(peel: &mut Peel) -> (u16, Need) {
+    let equal = peel.climb(Rise::Both, 0, 1);
     let mut best = Need { x: equal, y: equal };
+    let longest = peel.longest_rows();
     for x in 1..=equal {
         let first = first_better(best, x, |_| x);
+        if longest.y < first {
+            continue;
+        }
         let y = peel.climb(Rise::Y, x, first);
         if first <= y {
             best = Need { x, y };
@@ -162,12 +203,15 @@ fn search(peel: &mut Peel, equal: u16) -> Need {
     }
     for y in 1..=equal {
         let first = first_better(best, y, |x| x);
+        if longest.x < first {
+            continue;
+        }
         let x = peel.climb(Rise::X, y, first);
         if first <= x {
             best = Need { x, y };
         }
     }
-    best
+    (equal, best)
 }
 
 /// The least number that, beside the fixed one, gives a greater product than the best, or an equal one with a smaller x.

@@ -11,9 +11,13 @@ struct Goal {
     most: f64,
 }
 
-const GOALS: [Goal; 4] = [
+const GOALS: [Goal; 5] = [
     Goal {
         call: Call::Finding,
+        most: 1.2,
+    },
+    Goal {
+        call: Call::Layers,
         most: 1.2,
     },
     Goal {
@@ -60,7 +64,8 @@ call counts, in microseconds. The ratio is the library's time divided by that of
 
 Both sides check the file in every call, run in one thread, and write to tables that are lent to them. Nothing clears these tables
 between calls. What plain Rust sorts and peels in is kept from call to call, so that no allocation is timed. It sorts the links at
-most once in a call, and ends a peel as soon as a side is empty.
+most once in a call, and ends a peel as soon as a side is empty. For the layers it keeps a list of the links that no layer has yet,
+and searches these anew for each layer.
 Unless a file is called ascending, its links stand in random order.
 "
     )
@@ -89,9 +94,14 @@ fn goal_table(shapes: &[Measured], growth: &[Measured]) -> String {
 }
 
 fn time_table(measured: &[Measured]) -> String {
-    let head = "| Network | n | m | Call | Library (µs) | Plain Rust (µs) | Ratio |\n|---|---|---|---|---|---|---|\n";
+    let head = "| Network | n | m | Layers | Call | Library (µs) | Plain Rust (µs) | Ratio |\n|---|---|---|---|---|---|---|---|\n";
     let mut text = head.to_string();
-    for Measured { input, times } in measured {
+    for Measured {
+        input,
+        layers,
+        times,
+    } in measured
+    {
         for times in times {
             let (name, n, m) = (&input.name, input.n, input.m);
             let (call, ratio) = (times.call.name(), times.ratio());
@@ -99,7 +109,7 @@ fn time_table(measured: &[Measured]) -> String {
             add(
                 &mut text,
                 &format!(
-                    "| {name} | {n} | {m} | {call} | {library:.1} | {plain:.1} | {ratio:.2} |"
+                    "| {name} | {n} | {m} | {layers} | {call} | {library:.1} | {plain:.1} | {ratio:.2} |"
                 ),
             );
         }

@@ -9,6 +9,7 @@ const CORE: [u16; 2] = [2, 2];
 #[derive(Clone, Copy, PartialEq, Eq)]
 pub enum Call {
     Finding,
+    Layers,
     Core,
     Check,
     Index,
@@ -17,8 +18,9 @@ pub enum Call {
 }
 
 impl Call {
-    pub const ALL: [Call; 6] = [
+    pub const ALL: [Call; 7] = [
         Call::Finding,
+        Call::Layers,
         Call::Core,
         Call::Check,
         Call::Index,
@@ -29,6 +31,7 @@ impl Call {
     pub fn name(self) -> &'static str {
         match self {
             Call::Finding => "finding",
+            Call::Layers => "layers",
             Call::Core => "core [2,2]",
             Call::Check => "check",
             Call::Index => "index",
@@ -46,6 +49,7 @@ pub type Numbers = [usize; 8];
 pub struct Tables {
     s: Vec<u8>,
     t: Vec<u8>,
+    layers: Vec<u16>,
     out: Vec<u8>,
     out_starts: Vec<u16>,
     out_rows: Vec<u16>,
@@ -60,6 +64,7 @@ impl Tables {
         Self {
             s: vec![full; input.n],
             t: vec![full; input.n],
+            layers: wide(input.m),
             out: vec![full; input.file.len()],
             out_starts: wide(input.n + 1),
             out_rows: wide(input.m),
@@ -90,9 +95,15 @@ impl Side for Library {
     }
 
     fn call(&mut self, call: Call, file: &[u8], input: &Input) -> Numbers {
-        let Tables { s, t, out, .. } = &mut self.tables;
+        let Tables {
+            s, t, layers, out, ..
+        } = &mut self.tables;
         match call {
             Call::Finding => finding_numbers(lent::finding(file, s, t, &mut self.work)),
+            Call::Layers => {
+                let told = lent::layers(file, layers, &mut self.work);
+                numbers(told.refusal, told.link, [told.layers])
+            }
             Call::Core => {
                 let [x, y] = CORE;
                 totals_numbers(lent::core(file, x, y, s, t, &mut self.work))
@@ -173,6 +184,7 @@ impl Side for PlainRust {
         let Self { tables, plain } = self;
         match call {
             Call::Finding => told(plain.finding(file, &mut tables.s, &mut tables.t)),
+            Call::Layers => told(plain.layers(file, &mut tables.layers)),
             Call::Core => told(plain.core(file, CORE, &mut tables.s, &mut tables.t)),
             Call::Check => told(plain.check(file)),
             Call::Index => told(plain.index(file, index_of(tables))),

@@ -1,27 +1,31 @@
 -- Tests that compute on a given network, each with the law that what it accepts holds by the definitions; last the test of a claim
 -- and of a table of cases.
-use Prim.Native.Nat.{ℕ, zero, suc, _*_, _<_, _≤_}
+use Prim.Native.Nat.{ℕ, zero, suc, _+_, _*_, _<_, _≤_}
 use mathlib.Core.Bool.{Bool, true, false, not, _&&_, _||_, false≢true}
 use mathlib.Core.List.{List, [], _∷_}
-use mathlib.Core.Path.{_≡_, sym, _∙_}
-use native.Mathlib.Nat.{le-refl, le-trans}
+use mathlib.Core.Logic.{⊎-elim}
+use mathlib.Core.Path.{_≡_, refl, sym, _∙_}
+use native.Mathlib.Nat.{le-refl, le-trans, eq-or-lt-of-le}
 use native.Mathlib.Omega.{arith}
 use borrow.Author.Tests.{ltb-true, leb-true, eqb-true, le-leb, eq-eqb, not-true}
 use lib.Dec.{eqb, leb, ltb}
-use lib.ListN.{length}
+use lib.ListN.{length, getD}
 use Rattle.graph.specs.Graph.{Graph, Group, card, edges}
 use Rattle.graph.specs.Shapes.{Closed, total}
 use Rattle.graph.specs.Core.{Inside, Dense, Core, Nonempty, Greatest, Before, Finding}
+use Rattle.graph.specs.Layers.{stillIn, joins, Layer, Layering}
 use Rattle.graph.proofs.Tests.{and-left, and-right}
 use Rattle.graph.proofs.Sums.{below-suc}
 use Rattle.graph.proofs.Degrees.{card-mono}
 use Rattle.graph.proofs.Exists.{nonempty, nonempty-nested}
 use Rattle.graph.proofs.Search.{greatest-stop}
 use Rattle.graph.proofs.Weights.{nonempty-x, nonempty-y}
+use Rattle.graph.proofs.Masks.{closed-weighing}
+use Rattle.graph.proofs.Layers.{layer-make, layer-product}
 use Rattle.network.specs.declared.Refusal.{Refusal}
 use Rattle.network.specs.File.{graphOf, none, fileRefusal}
 use Rattle.network.specs.Refusals.{workLength, findingRefusal}
-use Rattle.cases.specs.Cases.{members, Counts, Claim, core, level, across, finding, gives, findingGives, Says, Case, Hold}
+use Rattle.cases.specs.Cases.{members, Ring, Counts, Claim, core, level, across, finding, layers, gives, findingGives, Rings, Says, Case, Hold}
 use Rattle.cases.proofs.Sweep.{withOut, withIn, sourcesLeft, targetsLeft, covers-sweep}
 
 -- two tests that hold together each hold
@@ -36,6 +40,17 @@ implies a b = not a || b
 implies-true : {a b : Bool} → implies a b ≡ true → a ≡ true → b ≡ true
 implies-true {a = true} h p = h
 implies-true {a = false} h p = absurd (false≢true p)
+
+-- two tests are equal
+abbrev pub same : Bool → Bool → Bool
+same a b = implies a b && implies b a
+
+-- as they are
+same-true : {a b : Bool} → same a b ≡ true → a ≡ b
+same-true {a = true} {b = true} h = refl
+same-true {a = true} {b = false} h = sym h
+same-true {a = false} {b = true} h = h
+same-true {a = false} {b = false} h = refl
 
 -- every number below n passes the test
 abbrev pub every : ℕ → (ℕ → Bool) → Bool
@@ -179,6 +194,57 @@ counts-sound g S T E h =
     let (q, t) = both (eqb (card g (members S)) (length S)) _ r in
     record { between = eqb-true _ _ p; sources = eqb-true _ _ q; targets = eqb-true _ _ t }
 
+-- the ring is the finding of the links still in at the start of layer l, and the layer has exactly those from S to T
+abbrev pub isRing : Graph → (ℕ → ℕ) → ℕ → Ring → Bool
+isRing g L l r =
+    let h = stillIn g L l in
+    isFinding h (r .x) (r .y) (members (r .S)) (members (r .T))
+    && (isCounts h (r .S) (r .T) (r .E) && every (g .size) (λ e. same (eqb (L e) l) (joins h (members (r .S)) (members (r .T)) e)))
+
+-- by the definition
+ring-sound : {g : Graph} → Closed g → (L : ℕ → ℕ) (l : ℕ) (r : Ring) → isRing g L l r ≡ true → Layer g L l × Rings g L l (r ∷ [])
+ring-sound {g} k L l r h =
+    let (f, p) = both (isFinding (stillIn g L l) (r .x) (r .y) (members (r .S)) (members (r .T))) _ h in
+    let (c, t) = both (isCounts (stillIn g L l) (r .S) (r .T) (r .E)) _ p in
+    let found = finding-sound (closed-weighing k (stillIn g L l .weight)) (r .x) (r .y) (members (r .S)) (members (r .T)) f in
+    (layer-make k (stillIn g L l .weight) found (λ e m. refl) (λ e m. same-true (every-at (g .size) _ t e m)), (found, counts-sound (stillIn g L l) (r .S) (r .T) (r .E) c, tt))
+
+-- each ring of a list is that of its layer, from layer l on
+abbrev pub areRings : Graph → (ℕ → ℕ) → ℕ → List Ring → Bool
+areRings g L l [] = true
+areRings g L l (r ∷ rings) = isRing g L l r && areRings g L (suc l) rings
+
+-- by the definition
+rings-sound : {g : Graph} → Closed g → (L : ℕ → ℕ) (l : ℕ) (rings : List Ring) → areRings g L l rings ≡ true
+    → ((i : ℕ) → l ≤ i → i < l + length rings → Layer g L i) × Rings g L l rings
+rings-sound k L l [] h = (λ i p q. absurd (omega arith), tt)
+rings-sound {g} k L l (r ∷ rings) h =
+    let (p, q) = both (isRing g L l r) _ h in
+    let (a, b) = ring-sound k L l r p in
+    let (c, d) = rings-sound k L (suc l) rings q in
+    (λ i m n. ⊎-elim (λ e. rw (← e) a) (λ e. c i e (omega arith)) (eq-or-lt-of-le m), (b .0, b .1, d))
+
+-- each edge has a layer from 1 to K
+abbrev pub areLayers : Graph → (ℕ → ℕ) → ℕ → Bool
+areLayers g L K = every (g .size) (λ e. (leb 1 (L e) && leb (L e) K) && leb 1 (g .weight e))
+
+-- so with its rings it is the layering
+layering-sound : {g : Graph} → Closed g → (L : ℕ → ℕ) (rings : List Ring) → areLayers g L (length rings) ≡ true → ((i : ℕ) → 1 ≤ i → i < 1 + length rings → Layer g L i)
+    → Layering g L (length rings)
+layering-sound {g} k L rings h layer =
+    record {
+      every = λ e l. (λ p. at e l .2, λ p. at e l .0);
+      most = λ e l. at e l .1;
+      layer = λ i p q. layer i p (omega arith);
+      falls = λ l a b. layer-product k (omega arith) a b;
+    }
+  where
+    at : (e : ℕ) → e < g .size → (1 ≤ L e) × (L e ≤ length rings) × (1 ≤ g .weight e)
+    at e l =
+        let (p, w) = both (leb 1 (L e) && leb (L e) (length rings)) _ (every-at (g .size) _ h e l) in
+        let (a, b) = both (leb 1 (L e)) _ p in
+        (leb-true _ _ a, leb-true _ _ b, leb-true _ _ w)
+
 -- two refusals are equal
 abbrev pub isRefusal : Refusal → Refusal → Bool
 isRefusal r s = eqb (r .number) (s .number) && eqb (r .link) (s .link)
@@ -205,6 +271,8 @@ holds f (across y x) = isAccepted f && isLast (graphOf f) (λ j. j) (λ j. y) x
 holds f (finding x y k S T E) =
     isAccepted f
     && (isFinding (graphOf f) x y (members S) (members T) && (isLast (graphOf f) (λ j. j) (λ j. j) k && isCounts (graphOf f) S T E))
+holds f (layers l rings) =
+    isAccepted f && (areLayers (graphOf f) (λ e. getD l e 0) (length rings) && areRings (graphOf f) (λ e. getD l e 0) 1 rings)
 holds f (gives r) = isRefusal (fileRefusal f) r
 holds f (findingGives r) = isRefusal (findingRefusal f (graphOf f .order) (graphOf f .order) (workLength (graphOf f .order) (graphOf f .size))) r
 
@@ -234,6 +302,12 @@ holds-sound f (finding x y j S T E) h =
       level = last-sound k (λ i. i) (λ i. i) j (λ i m l. (l, l)) e;
       counts = counts-sound (graphOf f) S T E q;
     }
+holds-sound f (layers l rings) h =
+    let (a, r) = both (isAccepted f) _ h in
+    let (o, k) = accepted-sound f a in
+    let (p, q) = both (areLayers (graphOf f) (λ e. getD l e 0) (length rings)) _ r in
+    let (layer, each) = rings-sound k (λ e. getD l e 0) 1 rings q in
+    record { accepted = o; layering = layering-sound k (λ e. getD l e 0) rings p layer; each = each }
 holds-sound f (gives r) h = refusal-sound (fileRefusal f) r h
 holds-sound f (findingGives r) h = refusal-sound (findingRefusal f (graphOf f .order) (graphOf f .order) (workLength (graphOf f .order) (graphOf f .size))) r h
 

@@ -1,12 +1,13 @@
 -- 01's "Networks to try" as one table: each network as the bytes of its file, and what 01 says of it, by the definitions.
-use Prim.Native.Nat.{ℕ}
+use Prim.Native.Nat.{ℕ, suc}
 use mathlib.Core.Bool.{false, _||_}
 use mathlib.Core.List.{List, [], _∷_, _++_}
 use mathlib.Core.Path.{_≡_}
 use lib.Dec.{eqb}
-use lib.ListN.{length}
+use lib.ListN.{length, getD}
 use Rattle.graph.specs.Graph.{Graph, Group, card, edges}
 use Rattle.graph.specs.Core.{Core, Level, LevelAcross, EqualLevel, Finding}
+use Rattle.graph.specs.Layers.{stillIn, Layering}
 use Rattle.network.specs.declared.Refusal.{Refusal}
 use Rattle.network.specs.File.{graphOf, none, plain, at, fileRefusal}
 use Rattle.network.specs.Refusals.{workLength, findingRefusal}
@@ -17,7 +18,15 @@ abbrev pub members : List ℕ → Group
 members [] u = false
 members (v ∷ s) u = eqb u v || members s u
 
--- what 01 says of a network; S and T list members
+-- a ring: the finding is [x,y] with S, T and E
+pub record Ring : Type 0 where
+  pub x : ℕ
+  pub y : ℕ
+  pub S : List ℕ
+  pub T : List ℕ
+  pub E : ℕ
+
+-- what 01 says of a network, and 02 of its layers; S and T list members
 pub data Claim : Type 0 where
   -- the [x,y]-core is S and T, with E links between them
   core : (x y : ℕ) (S T : List ℕ) (E : ℕ) → Claim
@@ -27,6 +36,8 @@ pub data Claim : Type 0 where
   across : (y x : ℕ) → Claim
   -- the finding is [x,y] with S, T and E, and the equal level is k
   finding : (x y k : ℕ) (S T : List ℕ) (E : ℕ) → Claim
+  -- the links have the listed layers, which are these rings, one after the other
+  layers : List ℕ → List Ring → Claim
   -- the file's own bytes give this refusal, or none
   gives : Refusal → Claim
   -- the finding call gives this refusal when its lent tables are as long as it needs
@@ -51,12 +62,26 @@ pub record SaysFinding (f : List ℕ) (x y k : ℕ) (S T : List ℕ) (E : ℕ) :
   pub level : EqualLevel (graphOf f) k
   pub counts : Counts (graphOf f) S T E
 
+-- the rings, from layer l on, are the findings of the links still in
+abbrev pub Rings : Graph → (ℕ → ℕ) → ℕ → List Ring → Type 0
+Rings g L l [] = Unit {0}
+Rings g L l (r ∷ rings) =
+    Finding (stillIn g L l) (r .x) (r .y) (members (r .S)) (members (r .T)) × Counts (stillIn g L l) (r .S) (r .T) (r .E)
+    × Rings g L (suc l) rings
+
+-- the file is accepted, and its links have these layers, of which each is its ring
+pub record SaysLayers (f layers : List ℕ) (rings : List Ring) : Type 0 where
+  pub accepted : fileRefusal f ≡ none
+  pub layering : Layering (graphOf f) (λ e. getD layers e 0) (length rings)
+  pub each : Rings (graphOf f) (λ e. getD layers e 0) 1 rings
+
 -- a claim on a file, by the definitions
 abbrev pub Says : List ℕ → Claim → Type 0
 Says f (core x y S T E) = SaysCore f x y S T E
 Says f (level x y) = (fileRefusal f ≡ none) × Level (graphOf f) x y
 Says f (across y x) = (fileRefusal f ≡ none) × LevelAcross (graphOf f) y x
 Says f (finding x y k S T E) = SaysFinding f x y k S T E
+Says f (layers l rings) = SaysLayers f l rings
 Says f (gives r) = fileRefusal f ≡ r
 Says f (findingGives r) = findingRefusal f (graphOf f .order) (graphOf f .order) (workLength (graphOf f .order) (graphOf f .size)) ≡ r
 
@@ -73,7 +98,7 @@ W = header 6 8 ++ edgeBytes 0 3 ++ edgeBytes 0 4 ++ edgeBytes 1 3 ++ edgeBytes 1
 abbrev pub says : List ℕ → Claim → Case
 says f c = record { file = f; claim = c }
 
--- P1 to P9 and W's report, then the limits of a file
+-- P1 to P9, W's report and W's layers, then the limits of a file
 unfoldable pub cases : List Case
 cases =
     -- P1
@@ -91,6 +116,11 @@ cases =
     ∷ says W (across 3 2)
     -- the report on W
     ∷ says W (finding 2 3 2 (0 ∷ 1 ∷ 2 ∷ []) (3 ∷ 4 ∷ []) 6)
+    -- its layers
+    ∷ says W (layers (1 ∷ 1 ∷ 1 ∷ 1 ∷ 1 ∷ 1 ∷ 2 ∷ 2 ∷ []) (
+    record { x = 2; y = 3; S = 0 ∷ 1 ∷ 2 ∷ []; T = 3 ∷ 4 ∷ []; E = 6 }
+    ∷ record { x = 1; y = 2; S = 4 ∷ 5 ∷ []; T = 5 ∷ []; E = 2 }
+    ∷ []))
     -- P6
     ∷ says (header 4 3 ++ edgeBytes 0 1 ++ edgeBytes 0 2 ++ edgeBytes 0 3) (finding 3 1 1 (0 ∷ []) (1 ∷ 2 ∷ 3 ∷ []) 3)
     -- P7

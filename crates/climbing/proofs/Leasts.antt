@@ -12,14 +12,14 @@ use Rattle.graph.specs.Graph.{Group}
 use Rattle.graph.proofs.Tests.{and-left, and-right, and-both}
 use Rattle.climbing.specs.Climbs.{Some, Least}
 
--- k is the least over the numbers below i that pass, or 65536 where none does
+-- k is the least over the numbers below i that pass, or 65535 where none does
 pub record Lowest (P : Group) (d : ℕ → ℕ) (i k : ℕ) : Type 0 where
   pub small : (p : ℕ) → p < i → P p ≡ true → d p < 65536
   pub low : (p : ℕ) → p < i → P p ≡ true → k ≤ d p
-  pub reached : k < 65536 → Some (λ p. P p && leb (d p) k) i
+  pub reached : k < 65535 → Some (λ p. P p && leb (d p) k) i
 
 -- at first none has passed
-pub lowest-begins : (P : Group) (d : ℕ → ℕ) → Lowest P d 0 65536
+pub lowest-begins : (P : Group) (d : ℕ → ℕ) → Lowest P d 0 65535
 lowest-begins P d = record { small = λ p l. absurd (omega arith); low = λ p l. absurd (omega arith); reached = λ l. absurd (omega arith) }
 
 -- it is the same for a test that agrees below i, and further on where no number passes
@@ -57,8 +57,15 @@ lowest-next {P} {d} {i} {k} o l e = rw e (go (P i && ltb (d i) k) refl)
           reached = λ m. let s = o .reached m in record { number = s .number; below = omega (arith, s .below); passes = s .passes };
         }
 
--- at the end it is the least, where some number passes
-pub lowest-ends : {P : Group} {d : ℕ → ℕ} {N k : ℕ} → Lowest P d N k → Some P N → Least P d N k × (k < 65536)
+-- at the end it is the least, where some number passes: that one is no greater than 65535
+pub lowest-ends : {P : Group} {d : ℕ → ℕ} {N k : ℕ} → Lowest P d N k → Some P N → Least P d N k
 lowest-ends {P} {d} {N} {k} o s =
-    let less : k < 65536 = omega (arith, o .low (s .number) (s .below) (s .passes), o .small (s .number) (s .below) (s .passes)) in
-    (record { low = o .low; reached = o .reached less }, less)
+    record {
+      low = o .low;
+      reached = elim (decLt k 65535) [
+        | yes m ↦ o .reached m
+        | no m ↦
+            let small = o .small (s .number) (s .below) (s .passes) in
+            record { number = s .number; below = s .below; passes = and-both (s .passes) (le-leb (d (s .number)) k (omega arith)) }
+      ];
+    }

@@ -54,9 +54,19 @@ fn end_rising(order: usize, rise: Rise) -> usize
     }
 }
 
+// k in 16 bits, or the greatest number of these where it is greater.
+fn narrow(k: usize) -> u16
+    ensures { λ r. ⌜ (r ≤ k) × (k < 65536 → r ≡ k) ⌝ }
+{
+    if 65535 < k {
+        return 65535;
+    }
+    k as u16
+}
+
 // The lesser of `least` and a degree, where that is at least k.
-fn lesser_degree(k: usize, degree: usize, least: usize) -> usize
-    ensures { λ r. ⌜ r ≡ cond (leb k degree && ltb degree least) degree least ⌝ }
+fn lesser_degree(k: u16, degree: u16, least: u16) -> u16
+    ensures { λ r. ⌜ (r ≡ cond (leb k degree && ltb degree least) degree least) × (degree < 65536) ⌝ }
 {
     if degree < k {
         return least;
@@ -64,7 +74,8 @@ fn lesser_degree(k: usize, degree: usize, least: usize) -> usize
     if degree < least { degree } else { least }
 }
 
-// The least degree among the places that are left and rise, all of which need k. Only the sides that rise are looked at.
+// The least degree among the places that are left and rise, all of which need k. Only the sides that rise are looked at, and in 16 bits: so
+// the pass can look at many degrees at once.
 pub fn least_left(work: &[u16], scope: Scope, rise: Rise, k: usize) -> usize
     requires { ⌜ Small (scope .order) (scope .size) ⌝ }
     requires { ⌜ workLength (scope .order) (scope .size) ≤ length (now work) ⌝ }
@@ -74,11 +85,12 @@ pub fn least_left(work: &[u16], scope: Scope, rise: Rise, k: usize) -> usize
     ensures { λ r. ⌜ r < 65536 ⌝ }
 {
     let at = degrees_at(scope);
-    let mut least = 65536;
+    let enough = narrow(k);
+    let mut least: u16 = 65535;
     for place in first_rising(scope.order, rise)..end_rising(scope.order, rise) {
-        least = lesser_degree(k, wide16(work[at + place]), least);
+        least = lesser_degree(enough, work[at + place], least);
     }
-    least
+    wide16(least)
 }
 
 // The last k from `start` on at which the core is not empty, or start - 1. Nothing changes up to the least degree that is left on the

@@ -13,6 +13,7 @@ use Rattle.calls.specs.declared.WriteAnswer as write
 use Rattle.adjacency.specs.declared.IndexAnswer as index
 use Rattle.cores.specs.declared.LevelAnswer as level
 use Rattle.finding.specs.declared.FindingAnswer as finding
+use Rattle.layering.specs.declared.LayersAnswer as layers
 use Rattle.network.specs.File.{none}
 use Rattle.network.specs.Refusals.{rowRefusal}
 use Rattle.cogsplice_c.specs.declared.CheckNumbers.{CheckNumbers}
@@ -22,6 +23,7 @@ use Rattle.cogsplice_c.specs.declared.IndexNumbers.{IndexNumbers}
 use Rattle.cogsplice_c.specs.declared.RowNumbers.{RowNumbers}
 use Rattle.cogsplice_c.specs.declared.LevelNumbers.{LevelNumbers}
 use Rattle.cogsplice_c.specs.declared.FindingNumbers.{FindingNumbers}
+use Rattle.cogsplice_c.specs.declared.LayersNumbers.{LayersNumbers}
 
 -- the struct holds the numbers of an answer that keeps the promise of the call
 pub record Told {Answer Struct : Type 0} (call : Answer → Type 0) (numbers : Answer → Struct) (given : Struct) : Type 0 where
@@ -54,12 +56,17 @@ abbrev pub levelNumbers : level.LevelAnswer → LevelNumbers
 levelNumbers (level.the-variants.At k) = record { refusal = 0; link = 0; level = k }
 levelNumbers (level.the-variants.Refused r) = record { refusal = r .number; link = r .link; level = 0 }
 
--- and of the finding
+-- of the finding,
 abbrev pub findingNumbers : finding.FindingAnswer → FindingNumbers
 findingNumbers (finding.the-variants.Found r) =
     let c = r .totals in
     record { refusal = 0; link = 0; edges = c .edges; x = r .x; y = r .y; equal = r .equal; sources = c .sources; targets = c .targets }
 findingNumbers (finding.the-variants.Refused r) = record { refusal = r .number; link = r .link; edges = 0; x = 0; y = 0; equal = 0; sources = 0; targets = 0 }
+
+-- and of the layers
+abbrev pub layersNumbers : layers.LayersAnswer → LayersNumbers
+layersNumbers (layers.the-variants.Made k) = record { refusal = 0; link = 0; layers = k }
+layersNumbers (layers.the-variants.Refused r) = record { refusal = r .number; link = r .link; layers = 0 }
 
 -- the side that a C program names
 abbrev pub sideOf : Bool → Side

@@ -6,6 +6,7 @@ mod rows;
 use crate::numbers::check_numbers;
 use crate::numbers::finding_numbers;
 use crate::numbers::index_numbers;
+use crate::numbers::layers_numbers;
 use crate::numbers::level_numbers;
 use crate::numbers::totals_numbers;
 use crate::numbers::write_numbers;
@@ -19,7 +20,8 @@ ghost use Rattle.calls.specs.Calls.{CheckCall, CountCall, WriteCall};
 ghost use Rattle.adjacency.specs.Calls.{bySide, IndexCall};
 ghost use Rattle.cores.specs.Calls.{CoreCall, LevelCall, LevelAcrossCall, EqualLevelCall};
 ghost use Rattle.finding.specs.Findings.{FindingCall};
-ghost use Rattle.cogsplice_c.specs.Told.{Told, PartOf, sideOf, checkNumbers, totalsNumbers, writeNumbers, indexNumbers, levelNumbers, findingNumbers};
+ghost use Rattle.layering.specs.Calls.{LayersCall};
+ghost use Rattle.cogsplice_c.specs.Told.{Told, PartOf, sideOf, checkNumbers, totalsNumbers, writeNumbers, indexNumbers, levelNumbers, findingNumbers, layersNumbers};
 
 // The numbers of the check: n and m.
 #[repr(C)]
@@ -82,6 +84,14 @@ pub struct FindingNumbers {
     pub equal: usize,
     pub sources: usize,
     pub targets: usize,
+}
+
+// The number of layers.
+#[repr(C)]
+pub struct LayersNumbers {
+    pub refusal: u16,
+    pub link: u16,
+    pub layers: usize,
 }
 
 #[no_mangle]
@@ -222,6 +232,17 @@ pub extern "C" fn cogsplice_finding(
     ensures { λ r. ⌜ Told (FindingCall (now (file .entry)) (now (s .entry)) (now (s .exit)) (now (t .entry)) (now (t .exit)) (now (work .entry)) (now (work .exit))) findingNumbers r ⌝ }
 {
     finding_numbers(cogsplice::finding(file, s, t, work))
+}
+
+#[no_mangle]
+pub extern "C" fn cogsplice_layers(
+    file: &[u8],
+    layers: &mut [u16],
+    work: &mut [u16],
+) -> LayersNumbers
+    ensures { λ r. ⌜ Told (LayersCall (now (file .entry)) (now (layers .entry)) (now (layers .exit)) (now (work .entry)) (now (work .exit))) layersNumbers r ⌝ }
+{
+    layers_numbers(cogsplice::layers(file, layers, work))
 }
 
 #[no_mangle]

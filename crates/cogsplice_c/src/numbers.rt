@@ -2,17 +2,19 @@
 use crate::CheckNumbers;
 use crate::FindingNumbers;
 use crate::IndexNumbers;
+use crate::LayersNumbers;
 use crate::LevelNumbers;
 use crate::TotalsNumbers;
 use crate::WriteNumbers;
 use cogsplice::CheckAnswer;
 use cogsplice::FindingAnswer;
 use cogsplice::IndexAnswer;
+use cogsplice::LayersAnswer;
 use cogsplice::LevelAnswer;
 use cogsplice::TotalsAnswer;
 use cogsplice::WriteAnswer;
 ghost use mathlib.Core.Path.{_≡_};
-ghost use Rattle.cogsplice_c.specs.Told.{checkNumbers, totalsNumbers, writeNumbers, indexNumbers, levelNumbers, findingNumbers};
+ghost use Rattle.cogsplice_c.specs.Told.{checkNumbers, totalsNumbers, writeNumbers, indexNumbers, levelNumbers, findingNumbers, layersNumbers};
 
 pub fn check_numbers(answer: CheckAnswer) -> CheckNumbers
     ensures { λ r. ⌜ r ≡ checkNumbers answer ⌝ }
@@ -126,6 +128,23 @@ pub fn finding_numbers(answer: FindingAnswer) -> FindingNumbers
             equal: 0,
             sources: 0,
             targets: 0,
+        },
+    }
+}
+
+pub fn layers_numbers(answer: LayersAnswer) -> LayersNumbers
+    ensures { λ r. ⌜ r ≡ layersNumbers answer ⌝ }
+{
+    match answer {
+        LayersAnswer::Made(layers) => LayersNumbers {
+            refusal: 0,
+            link: 0,
+            layers,
+        },
+        LayersAnswer::Refused(refusal) => LayersNumbers {
+            refusal: refusal.number,
+            link: refusal.link,
+            layers: 0,
         },
     }
 }

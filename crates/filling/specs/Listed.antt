@@ -17,9 +17,13 @@ Lists g l = (i : ℕ) → i < length l → getD l i 0 < g .size
 abbrev pub listed : Graph → List ℕ → Graph
 listed g l = record { order = g .order; size = length l; source = λ i. g .source (getD l i 0); target = λ i. g .target (getD l i 0); weight = λ i. 1 }
 
+-- how often edge e stands among the first k entries of a list
+abbrev pub times : List ℕ → ℕ → ℕ → ℕ
+times l k e = sum (λ i. if (eqb (getD l i 0) e) 1) k
+
 -- the graph in which each edge weighs as often as it stands in the list, and so 0 where it does not
 abbrev pub only : Graph → List ℕ → Graph
-only g l = record { order = g .order; size = g .size; source = g .source; target = g .target; weight = λ e. sum (λ i. if (eqb (getD l i 0) e) 1) (length l) }
+only g l = record { order = g .order; size = g .size; source = g .source; target = g .target; weight = times l (length l) }
 
 -- the table, with room for k edges, holds a graph, and what lies past the entries that it needs is unchanged
 pub record FilledWith (g : Graph) (k : ℕ) (w w′ : List ℕ) : Type 0 where

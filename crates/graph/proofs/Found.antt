@@ -79,7 +79,7 @@ finding-exists {g} k p =
     (x, y, S, T, best-finding k (l .above 1 (omega arith) (nonempty-one k .1 (sum-some (g .weight) (g .size) p))) l s c)
 
 -- the finding is a core that is not empty
-finding-nonempty : {g : Graph} {x y : ℕ} {S T : Group} → Finding g x y S T → Nonempty g x y
+pub finding-nonempty : {g : Graph} {x y : ℕ} {S T : Group} → Finding g x y S T → Nonempty g x y
 finding-nonempty {g} {x} {y} {S} {T} f = record { S = S; T = T; core = f .core; some = f .some; other = f .other }
 
 -- and only one

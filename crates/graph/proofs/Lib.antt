@@ -11,6 +11,10 @@ pub mod Density
 pub mod Search
 pub mod Weights
 pub mod Found
+pub mod Masks
+pub mod Layers
+pub mod Layered
+pub mod Layering
 pub mod Linkage
 pub mod Links
 pub mod Monotone

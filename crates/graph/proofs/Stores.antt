@@ -1,14 +1,14 @@
--- A list after a store: the entry stored, and every other as it was.
-use Prim.Native.Nat.{ℕ, _+_, _<_}
-use mathlib.Core.List.{List}
+-- A list after a store: the entry stored, and every other as it was; and after its front is written.
+use Prim.Native.Nat.{ℕ, _+_, _-_, _<_, _≤_}
+use mathlib.Core.List.{List, _++_}
 use mathlib.Core.Path.{_≡_, sym, ap, _∙_}
 use native.Mathlib.Decide.{ℕ-discrete, decLt}
 use native.Mathlib.Numerals.{add-one}
 use native.Mathlib.Omega.{arith}
 use borrow.Author.Tests.{eq-eqb, ne-eqb}
 use lib.Dec.{eqb}
-use lib.ListN.{length, getD, set, replicate, getD-replicate, length-replicate, List·getD-eq-default}
-use lib.Seq.{getD-set-same, getD-set-other}
+use lib.ListN.{length, getD, set, drop, replicate, getD-replicate, length-replicate, length-append, length-drop, List·getD-eq-default}
+use lib.Seq.{getD-set-same, getD-set-other, drop-append-add, drop-drop}
 use Rattle.graph.specs.Range.{sum, if, table}
 use Rattle.graph.proofs.Ranges.{table-unique}
 
@@ -52,3 +52,14 @@ pub count-table : (l₀ l : List ℕ) (n : ℕ) (key : ℕ → ℕ) (e : ℕ) �
     → l ≡ table (λ a. sum (λ d. if (eqb (key d) a) 1) e) n
 count-table l₀ l n key e z s c =
     table-unique l _ n s (λ a h. let z′ : getD l₀ a 0 ≡ 0 = ap (λ t. getD t a 0) z ∙ getD-zeros n a in omega (arith, c a))
+
+-- a table of which only the first n entries are others is as long as it was,
+pub length-past : (l w : List ℕ) (n : ℕ) → length l ≡ n → n ≤ length w → length (l ++ drop n w) ≡ length w
+length-past l w n s h = omega (arith, length-append l (drop n w), length-drop n w)
+
+-- and what lies past them is as it was
+pub drop-past : (l w : List ℕ) (n e : ℕ) → length l ≡ n → n ≤ e → drop e (l ++ drop n w) ≡ drop e w
+drop-past l w n e s h = rw (split e (length l) (omega arith), drop-append-add l (drop n w) (e - length l), drop-drop (e - length l) n w, ← s)
+  where
+    split : (e n : ℕ) → n ≤ e → e ≡ n + (e - n)
+    split e n h = omega arith

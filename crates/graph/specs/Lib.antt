@@ -1,9 +1,11 @@
 pub mod Range
 pub mod Graph
 pub mod Core
+pub mod Layers
 pub mod Order
 pub mod Shapes
 pub mod Sorting
 pub mod Search
 pub mod Linkage
 pub mod Cover
+pub mod Layered

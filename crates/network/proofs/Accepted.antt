@@ -73,6 +73,14 @@ orElse-both {r} s p = (go (eqb (r .number) 0) refl, λ (h, i). rw h i)
     go true e h = (p .number-none (eqb-true _ 0 e), h)
     go false e h = absurd (eqb-false _ 0 e (ap (λ t. t .number) h))
 
+-- of which the one that counts has number 0 only where it is none
+pub orElse-proper : {r s : Refusal} → Proper r → Proper s → Proper (orElse r s)
+orElse-proper {r} {s} p q = either (eqb (r .number) 0)
+  where
+    either : (b : Bool) → Proper (cond b s r)
+    either true = q
+    either false = p
+
 -- the refusal of a file has number 0 only where it is none
 pub file-proper : (f : List ℕ) → Proper (fileRefusal f)
 unfolding fileRefusal

@@ -7,7 +7,7 @@ use Rattle.graph.specs.Graph.{reverse}
 use Rattle.graph.specs.Order.{rankBy, nthBy, starts, rows}
 use Rattle.network.specs.declared.Refusal.{Refusal}
 use Rattle.network.specs.File.{graphOf, none, plain, at, fileRefusal}
-use Rattle.network.specs.Refusals.{indexRefusal, rowRefusal, countRefusal, coreRefusal, levelRefusal, equalLevelRefusal, findingRefusal, writeRefusal}
+use Rattle.network.specs.Refusals.{indexRefusal, rowRefusal, countRefusal, coreRefusal, levelRefusal, equalLevelRefusal, findingRefusal, layersRefusal, writeRefusal}
 use Rattle.network.specs.Bytes.{written}
 
 -- the bytes of links between members below 256
@@ -121,6 +121,12 @@ calls =
     ∷ record { given = findingRefusal (small 1 0 []) 1 1 7; expected = plain 9 }
     ∷ record { given = findingRefusal (small 1 0 []) 1 1 8; expected = plain 13 }
     ∷ record { given = findingRefusal W 6 6 54; expected = none }
+    ∷ record { given = layersRefusal [] 0 0; expected = plain 1 }
+    ∷ record { given = layersRefusal W 7 54; expected = plain 9 }
+    ∷ record { given = layersRefusal W 8 53; expected = plain 9 }
+    ∷ record { given = layersRefusal (small 1 0 []) 0 7; expected = plain 9 }
+    ∷ record { given = layersRefusal (small 1 0 []) 0 8; expected = plain 13 }
+    ∷ record { given = layersRefusal W 8 54; expected = none }
     ∷ record { given = writeRefusal [] 0; expected = plain 1 }
     ∷ record { given = writeRefusal W 40; expected = plain 9 }
     ∷ record { given = writeRefusal W 41; expected = none }
@@ -128,5 +134,5 @@ calls =
 
 -- each gives what it is to
 pub call-refusals : map (λ c. c .given) calls ≡ map (λ c. c .expected) calls
-unfolding first fileRefusal indexRefusal rowRefusal countRefusal coreRefusal levelRefusal equalLevelRefusal findingRefusal writeRefusal
+unfolding first fileRefusal indexRefusal rowRefusal countRefusal coreRefusal levelRefusal equalLevelRefusal findingRefusal layersRefusal writeRefusal
 call-refusals = refl

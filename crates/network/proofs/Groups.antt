@@ -1,14 +1,16 @@
 -- The bytes of a group: one for each member, and the same group again; and when two counts are the same.
-use Prim.Native.Nat.{ℕ, _<_}
+use Prim.Native.Nat.{ℕ, _<_, _≤_}
 use mathlib.Core.Bool.{Bool, true, false}
-use mathlib.Core.Path.{_≡_, refl}
+use mathlib.Core.List.{List}
+use mathlib.Core.Path.{_≡_, refl, ap}
+use native.Mathlib.Omega.{arith}
 use lib.Dec.{eqb}
-use lib.ListN.{length, getD}
+use lib.ListN.{length, getD, drop, length-append}
 use Rattle.graph.specs.Range.{if}
 use Rattle.graph.specs.Graph.{Group}
 use Rattle.graph.proofs.Ranges.{length-table, getD-table}
 use Rattle.network.specs.declared.Totals.{Totals}
-use Rattle.network.specs.Groups.{groupOf, bytesOf}
+use Rattle.network.specs.Groups.{groupOf, bytesOf, GroupIn}
 
 -- the bytes of a group are one for each member
 pub length-bytesOf : (n : ℕ) (S : Group) → length (bytesOf n S) ≡ n
@@ -25,6 +27,10 @@ groupOf-bytesOf n S u l = rw (getD-bytesOf n S u l) (test (S u))
     test : (b : Bool) → eqb (if b 1) 1 ≡ b
     test true = refl
     test false = refl
+
+-- a table that begins with a group has a byte for each member
+pub group-long : (n : ℕ) (s : List ℕ) {s′ : List ℕ} → GroupIn n s s′ → n ≤ length s′
+group-long n s {s′} e = omega (arith, ap length e, length-append (bytesOf n (groupOf s′)) (drop n s), length-bytesOf n (groupOf s′))
 
 -- E, |S| and |T| are those of another count where each of the three is
 pub totals-same : {a b : Totals} → a .edges ≡ b .edges → a .sources ≡ b .sources → a .targets ≡ b .targets → a ≡ b

@@ -16,7 +16,7 @@ orElse r s = cond (eqb (r .number) 0) s r
 abbrev pub inOrder : List ℕ → Bool → Refusal → Refusal
 inOrder f short later = orElse (fileRefusal f) (cond short (plain 9) later)
 
--- 01: the length of the work table of core, level, equal level and finding, for n members and m links
+-- 01: the length of the work table of core, level, equal level, finding and layers, for n members and m links
 abbrev pub workLength : ℕ → ℕ → ℕ
 workLength n m = 2 * m + 6 * n + 2
 
@@ -64,6 +64,12 @@ unfoldable pub findingRefusal : List ℕ → ℕ → ℕ → ℕ → Refusal
 findingRefusal f s t w =
     let g = graphOf f in
     inOrder f (ltb s (g .order) || ltb t (g .order) || ltb w (workLength (g .order) (g .size))) (cond (eqb (g .size) 0) (plain 13) none)
+
+-- the file, and the lengths of the layer table and of the work table
+unfoldable pub layersRefusal : List ℕ → ℕ → ℕ → Refusal
+layersRefusal f l w =
+    let g = graphOf f in
+    inOrder f (ltb l (g .size) || ltb w (workLength (g .order) (g .size))) (cond (eqb (g .size) 0) (plain 13) none)
 
 -- the file and the length of the output
 unfoldable pub writeRefusal : List ℕ → ℕ → Refusal

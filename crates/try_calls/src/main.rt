@@ -1,6 +1,7 @@
 // A client of the library: some calls on network W of 01, over tables of its own. What it prints is in the file stdout.
 use cogsplice::CheckAnswer;
 use cogsplice::FindingAnswer;
+use cogsplice::LayersAnswer;
 use cogsplice::LevelAnswer;
 use cogsplice::Side;
 use cogsplice::TotalsAnswer;
@@ -66,6 +67,20 @@ fn try_finding(file: &[u8]) {
     }
 }
 
+fn say_layers(number: usize, last: u16) {
+    say(b"layers, last link", number, last as usize);
+}
+
+// How many layers there are, and which one the last link is in.
+fn try_layers(file: &[u8]) {
+    let mut layers = [0u16; 8];
+    let mut work = [0u16; 54];
+    match cogsplice::layers(file, &mut layers, &mut work) {
+        LayersAnswer::Made(number) => say_layers(number, layers[7]),
+        LayersAnswer::Refused(refusal) => say_refused(refusal.number, refusal.link),
+    }
+}
+
 fn main() {
     let w =
         b"VCH\x01\x00\x06\x00\x08\x00\x00\x00\x03\x00\x00\x00\x04\x00\x01\x00\x03\x00\x01\x00\x04\x00\x02\x00\x03\x00\x02\x00\x04\x00\x04\x00\x05\x00\x05\x00\x05\x00";
@@ -73,4 +88,5 @@ fn main() {
     try_check(b"VCH");
     try_row(w);
     try_finding(w);
+    try_layers(w);
 }

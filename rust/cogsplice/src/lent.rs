@@ -75,6 +75,15 @@ pub struct FindingNumbers {
     pub targets: usize,
 }
 
+/// The number of layers.
+#[repr(C)]
+#[derive(Clone, Copy, Debug, PartialEq, Eq)]
+pub struct LayersNumbers {
+    pub refusal: u16,
+    pub link: u16,
+    pub layers: usize,
+}
+
 // A table crosses as a pointer and a length.
 #[rustfmt::skip]
 extern "C" {
@@ -107,6 +116,10 @@ extern "C" {
         file: *const u8, file_length: usize,
         s: *mut u8, s_length: usize, t: *mut u8, t_length: usize, work: *mut u16, work_length: usize,
     ) -> FindingNumbers;
+    fn cogsplice_layers(
+        file: *const u8, file_length: usize,
+        layers: *mut u16, layers_length: usize, work: *mut u16, work_length: usize,
+    ) -> LayersNumbers;
     fn cogsplice_equal_findings(x: usize, y: usize, a: usize, b: usize) -> bool;
 }
 
@@ -197,6 +210,17 @@ pub fn finding(file: &[u8], s: &mut [u8], t: &mut [u8], work: &mut [u16]) -> Fin
         cogsplice_finding(
             file.as_ptr(), file.len(),
             s.as_mut_ptr(), s.len(), t.as_mut_ptr(), t.len(), work.as_mut_ptr(), work.len(),
+        )
+    }
+}
+
+/// Writes the layer of each link, counted from 1, in the order of the file.
+#[rustfmt::skip]
+pub fn layers(file: &[u8], layers: &mut [u16], work: &mut [u16]) -> LayersNumbers {
+    unsafe {
+        cogsplice_layers(
+            file.as_ptr(), file.len(),
+            layers.as_mut_ptr(), layers.len(), work.as_mut_ptr(), work.len(),
         )
     }
 }

@@ -13,13 +13,18 @@
 //! assert_eq!(finding.pair.s, [0, 1, 2]);
 //! assert_eq!(finding.pair.t, [3, 4]);
 //! assert_eq!(finding.pair.edges, 6);
+//! let layers = network.layers()?;
+//! assert_eq!(layers.count(), 2);
+//! assert_eq!(layers.links(2).collect::<Vec<_>>(), [(4, 5), (5, 5)]);
 //! # Ok(())
 //! # }
 //! ```
+mod layers;
 pub mod lent;
 mod network;
 mod refusal;
 
+pub use layers::Layers;
 pub use network::{Finding, Index, Network, Pair, Totals};
 pub use refusal::Refusal;
 

@@ -1,4 +1,4 @@
-use crate::{file_length, lent, work_length, Refusal, Side};
+use crate::{file_length, lent, work_length, Layers, Refusal, Side};
 use std::fmt;
 
 /// A network file that was accepted.
@@ -289,6 +289,25 @@ impl Network {
                 t: members_of(&t),
                 edges: numbers.edges,
             },
+        })
+    }
+
+    /// The layers. Refused by 13 where the network has no link.
+    ///
+    /// ```
+    /// use cogsplice::{Network, Refusal};
+    /// let star = Network::from_links(4, &[(0, 1), (0, 2), (0, 3)]).unwrap();
+    /// assert_eq!(star.layers().unwrap().count(), 1);
+    /// assert_eq!(Network::from_links(4, &[]).unwrap().layers().unwrap_err(), Refusal::Linkless);
+    /// ```
+    pub fn layers(&self) -> Result<Layers, Refusal> {
+        let mut of_links = vec![0; self.links];
+        let numbers = lent::layers(&self.file, &mut of_links, &mut self.work());
+        Refusal::of(numbers.refusal, numbers.link)?;
+        Ok(Layers {
+            count: numbers.layers,
+            links: self.links().collect(),
+            of_links,
         })
     }
 

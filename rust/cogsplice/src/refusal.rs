@@ -37,7 +37,7 @@ pub enum Refusal {
     Group,
     /// 12: a level was asked for 0.
     Zero,
-    /// 13: a finding was asked for, and the file has no link.
+    /// 13: a finding or layers were asked for, and the file has no link.
     Linkless,
     /// 14: a row's start is above the next start, or that is above the length of the rows table.
     Row,

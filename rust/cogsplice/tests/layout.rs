@@ -48,6 +48,7 @@ fn structs_lie_as_in_c() {
                 targets
             }
         ),
+        lines!("layers_numbers", LayersNumbers { refusal, link, layers }),
     ]
     .concat();
     let wanted = include_str!("../../../tests/layout.def").lines();

@@ -1,23 +1,47 @@
-//! A finding and a refusal read as the report program prints them: every sample, against the text beside it.
-use cogsplice::Network;
+//! Findings, layers and refusals read as they are printed: every sample, against the texts beside it.
+use cogsplice::{Network, Refusal};
 use std::fs;
-use std::path::Path;
+use std::path::{Path, PathBuf};
 
-#[test]
-fn samples_read_as_they_are_printed() {
+/// The network files of the samples.
+fn samples() -> impl Iterator<Item = PathBuf> {
     let folder = Path::new(env!("CARGO_MANIFEST_DIR")).join("../../samples");
     let files = fs::read_dir(folder).unwrap().map(|entry| entry.unwrap().path());
+    files.filter(|path| path.extension().map_or(false, |kind| kind == "vch"))
+}
+
+/// What is said of each of the networks, or its refusal, is the text of this kind beside it.
+fn assert_read(samples: impl Iterator<Item = PathBuf>, kind: &str, said: impl Fn(Network) -> Result<String, Refusal>) {
     let mut compared = 0;
-    for path in files.filter(|path| path.extension().map_or(false, |kind| kind == "vch")) {
-        let finding = Network::from_file(fs::read(&path).unwrap()).and_then(|network| network.finding());
-        let text = finding.map_or_else(|refusal| refusal.to_string(), |finding| finding.to_string());
+    for path in samples {
+        let text = Network::from_file(fs::read(&path).unwrap()).and_then(&said);
         assert_eq!(
-            text + "\n",
-            fs::read_to_string(path.with_extension("txt")).unwrap(),
+            text.unwrap_or_else(|refusal| refusal.to_string()) + "\n",
+            fs::read_to_string(path.with_extension(kind)).unwrap(),
             "{}",
             path.display()
         );
         compared += 1;
     }
     assert!(compared > 0);
+}
+
+#[test]
+fn findings_read_as_they_are_printed() {
+    assert_read(samples(), "txt", |network| Ok(network.finding()?.to_string()));
+}
+
+#[test]
+fn layers_read_as_they_are_printed() {
+    let layered = samples().filter(|path| path.with_extension("layers").exists());
+    assert_read(layered, "layers", |network| Ok(network.layers()?.to_string()));
+}
+
+#[test]
+fn the_first_layer_is_the_finding() {
+    assert_read(samples(), "txt", |network| {
+        let (mut finding, layers) = (network.finding()?, network.layers()?);
+        finding.pair = layers.pair(1);
+        Ok(finding.to_string())
+    });
 }

@@ -1,6 +1,7 @@
 //! Refusals, and the answers of refused calls.
 use cogsplice::lent::{
-    CheckNumbers, FindingNumbers, IndexNumbers, LevelNumbers, TotalsNumbers, WriteNumbers,
+    CheckNumbers, FindingNumbers, IndexNumbers, LayersNumbers, LevelNumbers, TotalsNumbers,
+    WriteNumbers,
 };
 
 /// The order in which refusals are tested: the first that applies is given.
@@ -114,6 +115,16 @@ impl Refused for FindingNumbers {
             equal: 0,
             sources: 0,
             targets: 0,
+        }
+    }
+}
+
+impl Refused for LayersNumbers {
+    fn refused(Refusal { number, link }: Refusal) -> Self {
+        LayersNumbers {
+            refusal: number,
+            link,
+            layers: 0,
         }
     }
 }

@@ -7,7 +7,7 @@ use networks::Network;
 /// A group: for each member, whether it is in.
 pub type Group = Vec<bool>;
 
-/// The length of the work table of core, level, equal level and finding.
+/// The length of the work table of core, level, equal level, finding and layers.
 pub fn work_length(n: usize, m: usize) -> usize {
     2 * m + 6 * n + 2
 }
@@ -50,7 +50,7 @@ fn drop_short(group: &mut Group, links: &[usize], asked: usize) -> bool {
 }
 
 /// The [x,y]-core: members are dropped until none is short, on either side.
-fn core_of(network: &Network, x: usize, y: usize) -> (Group, Group) {
+pub(crate) fn core_of(network: &Network, x: usize, y: usize) -> (Group, Group) {
     let (mut s, mut t) = (vec![true; network.n], vec![true; network.n]);
     loop {
         let (given, taken) = degrees(network, &s, &t);
@@ -79,7 +79,7 @@ fn raise(non_empty: impl Fn(usize) -> bool) -> usize {
 /// x and y of the finding: the greatest x × y with a non-empty core, among equal products the smallest x.
 ///
 /// No core is non-empty with an x above every member's number of links as a voucher: a member of S has x links.
-fn finding_of(network: &Network) -> (usize, usize) {
+pub(crate) fn finding_of(network: &Network) -> (usize, usize) {
     let everyone = vec![true; network.n];
     let most = degrees(network, &everyone, &everyone)
         .0

@@ -7,6 +7,7 @@ mod cores;
 mod file;
 mod groups;
 mod index;
+mod layers;
 mod report;
 
 pub use answers::{first_of, Refusal};
@@ -14,4 +15,5 @@ pub use cores::{core, equal_findings, equal_level, finding, level, level_across,
 pub use file::{check, file_length, read, write, LINKS, MEMBERS};
 pub use groups::count;
 pub use index::{index, row, row_refusal};
+pub use layers::layers;
 pub use report::{report, INPUT};

@@ -9,20 +9,44 @@ fn network(n: usize, links: &[Link]) -> Vec<u8> {
     encode(&Network::new(n, links))
 }
 
-/// A network of full size: each of 30 vouchers vouches for each of 40 members, and all other links are random.
-fn planted_ring() -> Vec<u8> {
-    let (n, m) = (2048, 8192);
-    let mut links: Vec<Link> = (0..30)
-        .flat_map(|i| (0..40).map(move |j| (61 * i + 7, 43 * j + 11)))
-        .collect();
+/// All links from these vouchers to these vouched members.
+fn all_links(vouchers: &[usize], vouched: &[usize]) -> Vec<Link> {
+    let links_of = |&a| vouched.iter().map(move |&b| (a, b));
+    vouchers.iter().flat_map(links_of).collect()
+}
+
+/// Adds random links among n members until there are m links.
+fn scatter(draw: &mut Draw, n: usize, m: usize, links: &mut Vec<Link>) {
     let mut seen: HashSet<_> = links.iter().copied().collect();
-    let mut draw = Draw::new(2026);
     while links.len() < m {
         let link = (draw.below(n), draw.below(n));
         if seen.insert(link) {
             links.push(link);
         }
     }
+}
+
+/// A network of full size: each of 30 vouchers vouches for each of 40 members, and all other links are random.
+fn planted_ring() -> Vec<u8> {
+    let (n, m) = (2048, 8192);
+    let vouchers: Vec<usize> = (0..30).map(|i| 61 * i + 7).collect();
+    let vouched: Vec<usize> = (0..40).map(|j| 43 * j + 11).collect();
+    let mut links = all_links(&vouchers, &vouched);
+    scatter(&mut Draw::new(2026), n, m, &mut links);
+    network(n, &links)
+}
+
+/// Two rings among 30 members: each of 5 vouches for each of 6, and 5 others vouch for each other. 12 links are random, and all stand
+/// in random order.
+fn two_rings() -> Vec<u8> {
+    let (n, m) = (30, 62);
+    let circle = [0, 6, 11, 18, 28];
+    let mut links = all_links(&circle, &circle);
+    links.retain(|(a, b)| a != b);
+    links.extend(all_links(&[2, 7, 12, 17, 22], &[5, 9, 13, 19, 21, 25]));
+    let mut draw = Draw::new(2026);
+    scatter(&mut draw, n, m, &mut links);
+    draw.shuffle(&mut links);
     network(n, &links)
 }
 
@@ -44,6 +68,7 @@ fn main() {
     write("star", &network(4, &[(0, 1), (0, 2), (0, 3)]));
     write("tie", &network(6, &[(0, 1), (0, 2), (3, 5), (4, 5)]));
     write("planted-ring", &planted_ring());
+    write("two-rings", &two_rings());
     write("empty", &network(0, &[]));
     write("damaged-short", &w[..8]);
     write("damaged-mark", &changed(2, b'K'));

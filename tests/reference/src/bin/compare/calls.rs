@@ -22,6 +22,7 @@ pub fn try_all(case: &mut Case) {
     }
     try_equal_level(case);
     try_finding(case);
+    try_layers(case);
     try_equal_findings(case);
     let after = case.file.clone();
     case.compare(|| "the file stays as it was".into(), before, after);
@@ -168,12 +169,13 @@ fn try_finding(case: &mut Case) {
     );
 }
 
-/// How many entries of the work table are free: those that the call needs where it was accepted, else none.
-fn free_work(case: &Case, refusal: u16) -> usize {
-    let (n, m) = case.claimed();
-    match refusal {
-        0 => work_length(n, m),
-        _ => 0,
+/// Clears what is free of the work tables lent to a call of this refusal: the entries that it needs where it was accepted, else none.
+fn clear_work(case: &Case, refusal: u16, tables: [&mut Table<u16>; 2]) {
+    if refusal == 0 {
+        let (n, m) = case.claimed();
+        for work in tables {
+            work.clear(work_length(n, m));
+        }
     }
 }
 
@@ -195,9 +197,7 @@ fn try_groups<A: PartialEq + Debug>(
         let expected = reference(&case.file, s.lend(), t.lend(), lengths[2]);
         let (lent_s, lent_t) = (library_s.lend(), library_t.lend());
         let given = library(&case.file, lent_s, lent_t, library_work.lend());
-        let free = free_work(case, refusal(&expected));
-        work.clear(free);
-        library_work.clear(free);
+        clear_work(case, refusal(&expected), [&mut work, &mut library_work]);
         case.seen(refusal(&expected));
         case.compare(
             || format!("{call}, lengths {lengths:?}"),
@@ -245,14 +245,29 @@ fn try_level(
         let mut library_work = work.clone();
         let expected = reference(&case.file, length);
         let given = library(&case.file, library_work.lend());
-        let free = free_work(case, expected.refusal);
-        work.clear(free);
-        library_work.clear(free);
+        clear_work(case, expected.refusal, [&mut work, &mut library_work]);
         case.seen(expected.refusal);
         case.compare(
             || format!("{call}, work {length}"),
             (expected, work),
             (given, library_work),
+        );
+    }
+}
+
+fn try_layers(case: &mut Case) {
+    let (n, m) = case.claimed();
+    for lengths in lengths_to_try(&mut case.draw, [m, work_length(n, m)]) {
+        let [mut layers, mut work] = lengths.map(|length| Table::words(&mut case.draw, length));
+        let (mut library_layers, mut library_work) = (layers.clone(), work.clone());
+        let expected = reference::layers(&case.file, layers.lend(), lengths[1]);
+        let given = lent::layers(&case.file, library_layers.lend(), library_work.lend());
+        clear_work(case, expected.refusal, [&mut work, &mut library_work]);
+        case.seen(expected.refusal);
+        case.compare(
+            || format!("layers, lengths {lengths:?}"),
+            (expected, layers, work),
+            (given, library_layers, library_work),
         );
     }
 }

@@ -82,21 +82,32 @@ pub fn enumerate(case: &mut Case) {
     case.file = encode(&network);
     try_all(case);
     let top = network.n + 2;
-    // The x and y with a pair of non-empty groups that satisfies the definition.
-    let mut alive = Vec::new();
-    for x in 0..top {
-        for y in 0..top {
-            try_core_by_definition(case, &network, x, y);
-            let mut pairs = all_pairs(network.n).filter(|&(s, t)| s > 0 && t > 0);
-            if pairs.any(|pair| satisfies(&network, pair, x, y)) {
-                alive.push((x, y));
-            }
-        }
+    for (x, y) in (0..top).flat_map(|x| (0..top).map(move |y| (x, y))) {
+        try_core_by_definition(case, &network, x, y);
     }
+    let alive = alive(&network);
     try_levels(case, &network, &alive);
     if !network.links.is_empty() {
         try_finding(case, &network, &alive);
+        try_layers(case, &network);
     }
+}
+
+/// The x and y of at least 1 with a pair of non-empty groups that satisfies the definition.
+fn alive(network: &Network) -> Vec<(usize, usize)> {
+    let top = network.n + 2;
+    let numbers = (1..top).flat_map(|x| (1..top).map(move |y| (x, y)));
+    let non_empty = |&(x, y): &(usize, usize)| {
+        let mut pairs = all_pairs(network.n).filter(|&(s, t)| s > 0 && t > 0);
+        pairs.any(|pair| satisfies(network, pair, x, y))
+    };
+    numbers.filter(non_empty).collect()
+}
+
+/// x and y of the finding by the definition: the greatest product, then the smallest x; 0 and 0 where there is none.
+fn best_of(alive: &[(usize, usize)]) -> (usize, usize) {
+    let best = alive.iter().max_by_key(|&&(x, y)| (x * y, Reverse(x)));
+    best.copied().unwrap_or((0, 0))
 }
 
 /// The core satisfies the definition, and every other such pair has its S inside this S and its T inside this T.
@@ -136,19 +147,66 @@ fn try_levels(case: &mut Case, network: &Network, alive: &[(usize, usize)]) {
 
 /// The finding by the definition, and its bounds.
 fn try_finding(case: &mut Case, network: &Network, alive: &[(usize, usize)]) {
-    let positive = alive.iter().filter(|(x, y)| *x > 0 && *y > 0).copied();
-    let best = positive
-        .max_by_key(|&(x, y)| (x * y, Reverse(x)))
-        .unwrap_or((0, 0));
+    let best = best_of(alive);
     let (mut s, mut t) = (vec![0; network.n], vec![0; network.n]);
     let mut work = vec![0; work_length(network.n, network.links.len())];
     let found = lent::finding(&case.file, &mut s, &mut t, &mut work);
     case.compare(|| "finding: x and y".into(), best, (found.x, found.y));
-    try_bounds(case, network, best, (bits(&s), bits(&t)));
+    try_bounds(case, "finding", network, best, (bits(&s), bits(&t)));
 }
 
-/// No pair of non-empty groups has more than twice the density of the finding.
-fn try_bounds(case: &mut Case, network: &Network, (x, y): (usize, usize), found: Pair) {
+/// The layers by the definition, and the bounds of each over the links still in at its start.
+fn try_layers(case: &mut Case, network: &Network) {
+    let (n, m) = (network.n, network.links.len());
+    let (mut layers, mut work) = (vec![0; m], vec![0; work_length(n, m)]);
+    let count = lent::layers(&case.file, &mut layers, &mut work).layers;
+    let within = layers
+        .iter()
+        .all(|&layer| (1..=count).contains(&layer.into()))
+        && count <= m;
+    case.compare(|| "layers: from 1 to their number".into(), true, within);
+    let links_where = |keep: &dyn Fn(usize) -> bool| Network {
+        n,
+        links: (0..m)
+            .filter(|&e| keep(layers[e].into()))
+            .map(|e| network.links[e])
+            .collect(),
+    };
+    let (mut product, mut sum) = (usize::MAX, 0);
+    for layer in 1..=count.min(m) {
+        let name = format!("layer {layer}");
+        let still_in = links_where(&|of_link| of_link >= layer);
+        let taken = links_where(&|of_link| of_link == layer);
+        let best = best_of(&alive(&still_in));
+        let pair = core_by_definition(&still_in, best);
+        let mut expected = still_in.clone();
+        expected
+            .links
+            .retain(|&(a, b)| inside(pair.0, a) && inside(pair.1, b));
+        case.compare(|| format!("{name}: links"), expected, taken.clone());
+        let falls = best.0 * best.1 <= product;
+        case.compare(|| format!("{name}: its product does not rise"), true, falls);
+        // The groups as the library's links name them.
+        let named = taken
+            .links
+            .iter()
+            .fold((0, 0), |(s, t), &(a, b)| (s | 1 << a, t | 1 << b));
+        try_bounds(case, &name, &still_in, best, named);
+        product = best.0 * best.1;
+        sum += edges(&still_in, named);
+    }
+    case.compare(|| "layers: the sum of their E".into(), m, sum);
+}
+
+/// The [x,y]-core by the definition: the union of all pairs that satisfy it.
+fn core_by_definition(network: &Network, (x, y): (usize, usize)) -> Pair {
+    all_pairs(network.n)
+        .filter(|&pair| satisfies(network, pair, x, y))
+        .fold((0, 0), |(s, t), pair| (s | pair.0, t | pair.1))
+}
+
+/// No pair of non-empty groups has more than twice the density of the pair found.
+fn try_bounds(case: &mut Case, name: &str, network: &Network, (x, y): (usize, usize), found: Pair) {
     let squared = |pair| edges(network, pair).pow(2);
     let area = |(s, t): Pair| size(s) * size(t);
     let below = squared(found) >= x * y * area(found) && area(found) > 0;
@@ -156,7 +214,7 @@ fn try_bounds(case: &mut Case, network: &Network, (x, y): (usize, usize), found:
     let above = non_empty().all(|pair| squared(pair) <= 4 * x * y * area(pair));
     let twice =
         non_empty().all(|pair| squared(pair) * area(found) <= 4 * squared(found) * area(pair));
-    case.compare(|| "finding: bound from below".into(), true, below);
-    case.compare(|| "finding: bound from above".into(), true, above);
-    case.compare(|| "finding: factor two".into(), true, twice);
+    case.compare(|| format!("{name}: bound from below"), true, below);
+    case.compare(|| format!("{name}: bound from above"), true, above);
+    case.compare(|| format!("{name}: factor two"), true, twice);
 }

@@ -12,6 +12,7 @@ struct Tables {
     out: Vec<u8>,
     starts: [Vec<u16>; 2],
     rows: [Vec<u16>; 2],
+    layers: Vec<u16>,
     work: Vec<u16>,
 }
 
@@ -23,29 +24,33 @@ impl Tables {
             out: vec![0; file_length(m)],
             starts: [vec![0; n + 1], vec![0; n + 1]],
             rows: [vec![0; m], vec![0; m]],
+            layers: vec![0; m],
             work: vec![0; work_length(n, m)],
         }
     }
 }
 
+/// Makes one table one short, where it has an entry; whether it had.
+type Shorten = fn(&mut Tables) -> bool;
+
 /// A call, the tables that it is lent as functions that make one of them one short, and the number for an argument of its own.
 struct Call {
     name: &'static str,
-    shorten: &'static [fn(&mut Tables)],
+    shorten: &'static [Shorten],
     own: u16,
     /// The refusal for a file, its tables, and whether the argument is the faulty one.
     refusal: fn(&[u8], &mut Tables, bool) -> u16,
 }
 
-fn shorten<T>(table: &mut Vec<T>) {
-    table.pop();
+fn shorten<T>(table: &mut Vec<T>) -> bool {
+    table.pop().is_some()
 }
 
-const SHORT_S: fn(&mut Tables) = |tables| shorten(&mut tables.groups[0]);
-const SHORT_T: fn(&mut Tables) = |tables| shorten(&mut tables.groups[1]);
-const SHORT_WORK: fn(&mut Tables) = |tables| shorten(&mut tables.work);
+const SHORT_S: Shorten = |tables| shorten(&mut tables.groups[0]);
+const SHORT_T: Shorten = |tables| shorten(&mut tables.groups[1]);
+const SHORT_WORK: Shorten = |tables| shorten(&mut tables.work);
 
-const CALLS: [Call; 9] = [
+const CALLS: [Call; 10] = [
     Call {
         name: "check",
         shorten: &[],
@@ -107,7 +112,16 @@ const CALLS: [Call; 9] = [
         own: 0,
         refusal: finding,
     },
+    Call {
+        name: "layers",
+        shorten: &[|tables| shorten(&mut tables.layers), SHORT_WORK],
+        own: 0,
+        refusal: |file, tables, _| lent::layers(file, &mut tables.layers, &mut tables.work).refusal,
+    },
 ];
+
+/// The calls that are refused by 13 where the file has no link.
+const LINKLESS: [&str; 2] = ["finding", "layers"];
 
 fn count(file: &[u8], tables: &mut Tables, faulty: bool) -> u16 {
     let [s, t] = &mut tables.groups;
@@ -147,7 +161,7 @@ pub fn order(case: &mut Case) {
     };
     for fault in 0..=6 {
         case.file = faulty_file(&mut case.draw, &linkless, &[fault]);
-        for call in CALLS.iter().filter(|call| call.name == "finding") {
+        for call in CALLS.iter().filter(|call| LINKLESS.contains(&call.name)) {
             try_call(case, &linkless, call, fault, [13, 13]);
         }
     }
@@ -159,10 +173,8 @@ fn try_call(case: &mut Case, network: &Network, call: &Call, fault: u16, own: [u
     for faulty in [false, true] {
         for short in 0..=call.shorten.len() {
             let mut tables = Tables::new(network);
-            if short > 0 {
-                call.shorten[short - 1](&mut tables);
-            }
-            let of_table = if short > 0 { 9 } else { 0 };
+            let is_short = short > 0 && call.shorten[short - 1](&mut tables);
+            let of_table = if is_short { 9 } else { 0 };
             let expected = first_of(&[fault, of_table, own[faulty as usize]]);
             let given = (call.refusal)(&case.file, &mut tables, faulty);
             let name = call.name;

@@ -1,8 +1,8 @@
-//! The examples and limits that 01 names, by the reference and by the library.
+//! The examples and limits that 01 names, and the layers of these examples as worked out by hand, by the reference and by the library.
 use crate::calls::try_all;
 use crate::case::Case;
 use crate::damage::EMPTY;
-use cogsplice::lent::{self, FindingNumbers, LevelNumbers, TotalsNumbers};
+use cogsplice::lent::{self, FindingNumbers, LayersNumbers, LevelNumbers, TotalsNumbers};
 use networks::{encode, Link, Network};
 use reference::{report, work_length};
 
@@ -35,15 +35,23 @@ pub fn paper(case: &mut Case) {
     expect_core(case, 3, 0, 0, &[], &[0, 1, 2, 3, 4, 5]);
     expect_levels(case);
     expect_finding(case, [2, 3, 2, 6], &[0, 1, 2], &[3, 4]);
+    let enough = work_length(6, 8);
+    expect_layers(case, [8, enough], (0, 2), &[1, 1, 1, 1, 1, 1, 2, 2]);
+    expect_layers(case, [10, enough], (0, 2), &[1, 1, 1, 1, 1, 1, 2, 2]);
+    expect_layers(case, [7, enough], (9, 0), &[]);
+    expect_layers(case, [8, enough - 1], (9, 0), &[]);
     let text = report(&case.file);
     case.compare(|| "report".into(), W_REPORT.to_string(), text);
     try_all(case);
     set(case, "P6", 4, &[(0, 1), (0, 2), (0, 3)]);
     expect_finding(case, [3, 1, 1, 3], &[0], &[1, 2, 3]);
+    expect_layers(case, [3, work_length(4, 3)], (0, 1), &[1, 1, 1]);
     set(case, "P7", 6, &[(0, 1), (0, 2), (3, 5), (4, 5)]);
     expect_finding(case, [1, 2, 1, 2], &[3, 4], &[5]);
+    expect_layers(case, [4, work_length(6, 4)], (0, 2), &[2, 2, 1, 1]);
     set(case, "P8", 1, &[(0, 0)]);
     expect_finding(case, [1, 1, 1, 1], &[0], &[0]);
+    expect_layers(case, [1, work_length(1, 1)], (0, 1), &[1]);
     expect_limits(case);
 }
 
@@ -117,6 +125,27 @@ fn expect_finding(case: &mut Case, numbers: [usize; 4], s: &[usize], t: &[usize]
     case.compare(|| "finding".into(), &wanted, &(given, groups));
 }
 
+/// For a table of layers and a work table of these lengths: the refusal, the number of layers, and the layer of each link. No other
+/// entry of the table changes.
+fn expect_layers(case: &mut Case, lengths: [usize; 2], numbers: (u16, usize), of_links: &[u16]) {
+    let before = vec![7; lengths[0]];
+    let mut after = before.clone();
+    after[..of_links.len()].copy_from_slice(of_links);
+    let (refusal, layers) = numbers;
+    let expected = LayersNumbers {
+        refusal,
+        link: 0,
+        layers,
+    };
+    let wanted = (expected, after);
+    let mut table = before.clone();
+    let plain = reference::layers(&case.file, &mut table, lengths[1]);
+    case.compare(|| "layers: reference".into(), &wanted, &(plain, table));
+    let (mut table, mut work) = (before, vec![0; lengths[1]]);
+    let given = lent::layers(&case.file, &mut table, &mut work);
+    case.compare(|| "layers".into(), &wanted, &(given, table));
+}
+
 /// P9, no bytes at all, and the limits of n, m and a link's members.
 fn expect_limits(case: &mut Case) {
     let links = |m: usize| -> Vec<Link> { (0..m).map(|i| (i % 2048, i / 2048)).collect() };
@@ -138,6 +167,7 @@ fn expect_limits(case: &mut Case) {
     set(case, "P9", 1, &[]);
     let found = lent::finding(&case.file, &mut [0], &mut [0], &mut [0; 8]).refusal;
     case.compare(|| "finding without links".into(), 13, found);
+    expect_layers(case, [2, work_length(1, 0)], (13, 0), &[]);
     try_all(case);
 }
 

@@ -1,0 +1,4 @@
+pub mod Times
+pub mod Takings
+pub mod Makings
+pub mod LayersCalls

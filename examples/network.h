@@ -1,0 +1,31 @@
+/* What the examples share: the file that they look at, and the line of a refusal. */
+#include "cogsplice.h"
+
+#include <stdio.h>
+#include <string.h>
+
+/* 6 members and the links 0-3, 0-4, 1-3, 1-4, 2-3, 2-4, 4-5, 5-5. */
+static const uint8_t network_w[] = {
+    'V', 'C', 'H', 1, 0, 6, 0, 8, 0,
+    0, 0, 3, 0, 0, 0, 4, 0, 1, 0, 3, 0, 1, 0, 4, 0,
+    2, 0, 3, 0, 2, 0, 4, 0, 4, 0, 5, 0, 5, 0, 5, 0,
+};
+
+static uint8_t input[COGSPLICE_FILE(COGSPLICE_LINKS) + 1];
+
+/* Network W, or standard input if it is named by "-". */
+static const uint8_t *network_file(int argc, char **argv, size_t *length) {
+    if (argc > 1 && strcmp(argv[1], "-") == 0) {
+        *length = fread(input, 1, sizeof input, stdin);
+        return input;
+    }
+    *length = sizeof network_w;
+    return network_w;
+}
+
+static void print_refusal(uint16_t refusal, uint16_t link) {
+    printf("refused %u", (unsigned)refusal);
+    if (refusal == COGSPLICE_REFUSED_END || refusal == COGSPLICE_REFUSED_REPEAT)
+        printf(" at %u", (unsigned)link);
+    printf("\n");
+}
