@@ -196,7 +196,7 @@ fn search(peel: &mut Peel) -> (u16, Need) {
         if longest.y < first {
             continue;
         }
-        let y = peel.climb(Rise::Y, x, first);
+        let y = last_from(peel, Rise::Y, x, first, longest.y);
         if first <= y {
             best = Need { x, y };
         }
@@ -206,12 +206,21 @@ fn search(peel: &mut Peel) -> (u16, Need) {
         if longest.x < first {
             continue;
         }
-        let x = peel.climb(Rise::X, y, first);
+        let x = last_from(peel, Rise::X, y, first, longest.x);
         if first <= x {
             best = Need { x, y };
         }
     }
     (equal, best)
+}
+
+/// The last number from `first` on that, beside the fixed one, has a core that is not empty, or first - 1. Beside 1 it is the longest row
+/// of the side that rises: the place of that row and all in it are such a core, and nothing is climbed.
+fn last_from(peel: &mut Peel, rise: Rise, fixed: u16, first: u16, longest: u16) -> u16 {
+    if fixed == 1 {
+        return longest;
+    }
+    peel.climb(rise, fixed, first)
 }
 
 /// The least number that, beside the fixed one, gives a greater product than the best, or an equal one with a smaller x.

@@ -64,8 +64,9 @@ call counts, in microseconds. The ratio is the library's time divided by that of
 
 Both sides check the file in every call, run in one thread, and write to tables that are lent to them. Nothing clears these tables
 between calls. What plain Rust sorts and peels in is kept from call to call, so that no allocation is timed. It sorts the links at
-most once in a call, and ends a peel as soon as a side is empty. For the layers it keeps a list of the links that no layer has yet,
-and searches these anew for each layer.
+most once in a call, and ends a peel as soon as a side is empty. Library and plain Rust both take the level of 1 from the longest
+row, and begin a climb with the side that rises. For the layers plain Rust keeps a list of the links that no layer has yet, and
+searches these anew for each layer.
 Unless a file is called ascending, its links stand in random order.
 "
     )

@@ -1,6 +1,6 @@
 -- A core that has somebody has a place on the sides that rise, with as many edges in the core as are asked of it, and so with no fewer in the
 -- whole graph, where they are the entries of its row. Where these rows are all shorter, the core is empty.
-use Prim.Native.Nat.{ℕ, _+_, _*_, _<_, _≤_}
+use Prim.Native.Nat.{ℕ, _*_, _<_, _≤_}
 use mathlib.Core.List.{List}
 use mathlib.Core.Path.{refl}
 use native.Mathlib.Omega.{arith}
@@ -11,11 +11,10 @@ use Rattle.graph.proofs.Degrees.{card-same}
 use Rattle.graph.proofs.Linkage.{degree-mono}
 use Rattle.graph.proofs.Links.{degree-links}
 use Rattle.graph.proofs.Cover.{dense-settled, places-source, places-target}
-use Rattle.peeling.specs.Peeling.{rowLength, between, live, Rows, Indexed, Tabled, Kept}
-use Rattle.peeling.proofs.Kept.{start-kept}
+use Rattle.peeling.specs.Peeling.{rowLength, between, live, Indexed, Tabled}
 use Rattle.peeling.proofs.Whole.{row-degree}
 use Rattle.climbing.specs.declared.Rise.{Rise}
-use Rattle.climbing.specs.Climbs.{Reached, NoLonger}
+use Rattle.climbing.specs.Climbs.{Reached, rising, Longest}
 use Rattle.climbing.proofs.Asks.{rising-some, asked-rising}
 
 -- the edges of a place to the places of a set are at most those to all places, the entries of its row
@@ -30,8 +29,8 @@ row-most {g} {w = w} i R p l =
     )
 
 -- so where no row of the places that rise is as long as k, the core asked for at k is empty
-pub longest-stops : {n m : ℕ} (rise : Rise) (fixed k : ℕ) {w : List ℕ} {r : ℕ} → NoLonger n rise w r → r < k → {g : Graph} → Tabled g n m w
-    → ¬ Reached g rise fixed k
+pub longest-stops : {n m : ℕ} (rise : Rise) (fixed k : ℕ) {w : List ℕ} {r : ℕ} → Longest (rising n rise) w (2 * n) r → r < k
+    → {g : Graph} → Tabled g n m w → ¬ Reached g rise fixed k
 longest-stops {m = m} rise fixed k most s {g} t h =
     let R = places g (h .S) (h .T) in
     let sources = rw (card-same g (places-source g (h .S) (h .T))) at (h .some) in
@@ -44,8 +43,3 @@ longest-stops {m = m} rise fixed k most s {g} t h =
       row-most (t .indexed) R p l,
       most .all p (omega (arith, t .order)) (rw (← t .order) up),
     )
-
--- a table that keeps rows keeps their lengths
-pub longest-kept : {n m : ℕ} {rise : Rise} {w w′ : List ℕ} {k : ℕ} → Rows n m w → NoLonger n rise w k → Kept n m w w′ → NoLonger n rise w′ k
-longest-kept r most h =
-    record { all = λ p l up. rw (start-kept r h p (omega arith), start-kept r h (p + 1) (omega arith)) (most .all p l up) }

@@ -55,10 +55,6 @@ endRising n Targets = 2 * n
 endRising n Sources = n
 endRising n Both = 2 * n
 
--- none of them has a row of more than k entries
-pub record NoLonger (n : ℕ) (rise : Rise) (w : List ℕ) (k : ℕ) : Type 0 where
-  pub all : (p : ℕ) → p < 2 * n → rising n rise p ≡ true → rowLength w p ≤ k
-
 -- those of them that have the edges they need
 abbrev pub rests : Scope → Rise → List ℕ → Group
 rests c rise w p = rising (c .order) rise p && leb (needOf c p) (degreeOf (c .order) (c .size) w p)
@@ -68,6 +64,11 @@ pub record Some (P : Group) (N : ℕ) : Type 0 where
   pub number : ℕ
   pub below : number < N
   pub passes : P number ≡ true
+
+-- k is the length of the longest row of the places below N that pass the test, or 0 where none of them has an entry
+pub record Longest (P : Group) (w : List ℕ) (N k : ℕ) : Type 0 where
+  pub all : (p : ℕ) → p < N → P p ≡ true → rowLength w p ≤ k
+  pub reached : 1 ≤ k → Some (λ p. P p && leb k (rowLength w p)) N
 
 -- k is the least of d p for the numbers p below N that pass the test
 pub record Least (P : Group) (d : ℕ → ℕ) (N k : ℕ) : Type 0 where

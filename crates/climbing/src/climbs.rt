@@ -4,14 +4,14 @@ use network::wide16;
 use peeling::Peel;
 use peeling::Scope;
 use peeling::degrees_at;
-ghost use mathlib.Core.Bool.{true, cond, _&&_};
+ghost use mathlib.Core.Bool.{true, false, cond, _&&_};
 ghost use mathlib.Core.Path.{_≡_};
 ghost use Prim.Native.Nat.{ℕ, _+_, _*_, _<_, _≤_};
 ghost use lib.Dec.{leb, ltb};
 ghost use lib.ListN.{length};
 ghost use Rattle.network.specs.Refusals.{workLength};
 ghost use Rattle.network.specs.File.{mostMembers};
-ghost use Rattle.peeling.specs.Peeling.{Small, Rows, needOf, degreeOf};
+ghost use Rattle.peeling.specs.Peeling.{Small, Held, Ended, needOf, degreeOf};
 ghost use Rattle.climbing.specs.Climbs.{asked as askedAt, firstRising, endRising, rising, rests, Some, Least, Climbed};
 
 // What is asked of places at k.
@@ -93,6 +93,20 @@ pub fn least_left(work: &[u16], scope: Scope, rise: Rise, k: usize) -> usize
     wide16(least)
 }
 
+// The peel of the whole graph for what is asked at the start of a climb. Where one side rises, much may be asked of it at once: the peel begins
+// with that side.
+fn begin(work: &mut [u16], scope: Scope, rise: Rise) -> Peel
+    requires { ⌜ Small (scope .order) (scope .size) ⌝ }
+    requires { ⌜ Held (scope .order) (scope .size) (now work) ⌝ }
+    ensures { λ r. ⌜ Ended false scope (now (work .entry)) (now (work .exit)) r ⌝ }
+{
+    match rise {
+        Rise::Targets => Peel::whole_from(work, scope, scope.order),
+        Rise::Sources => Peel::whole_from(work, scope, 0),
+        Rise::Both => Peel::whole(work, scope, false),
+    }
+}
+
 // The last k from `start` on at which the core is not empty, or start - 1. Nothing changes up to the least degree that is left on the
 // sides that rise, so k goes straight past it, and at each turn somebody becomes short. The queue is not drained: a peel is over as soon as
 // a side is empty.
@@ -105,12 +119,12 @@ pub fn climb(
     start: usize,
 ) -> usize
     requires { ⌜ Small order size ⌝ }
-    requires { ⌜ Rows order size (now work) ⌝ }
+    requires { ⌜ Held order size (now work) ⌝ }
     requires { ⌜ 1 ≤ start ⌝ }
     ensures { λ r. ⌜ Climbed order size rise fixed start (now (work .entry)) (now (work .exit)) r ⌝ }
 {
     let mut k = start;
-    let mut peel = Peel::whole(work, asked(order, size, rise, fixed, start), false);
+    let mut peel = begin(work, asked(order, size, rise, fixed, start), rise);
     let last = loop {
         if peel.is_empty() {
             break k - 1;

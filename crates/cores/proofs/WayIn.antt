@@ -17,7 +17,7 @@ use Rattle.network.specs.Refusals.{workLength, coreRefusal, levelRefusal, equal
 use Rattle.network.specs.Calls.{refused, accepted}
 use Rattle.network.proofs.Accepted.{cond-none, or-fails}
 use Rattle.network.proofs.Answers.{orElse-found, orElse-second}
-use Rattle.peeling.specs.Peeling.{Small, Rows, Kept}
+use Rattle.peeling.specs.Peeling.{Small, Held, Kept}
 use Rattle.cores.specs.declared.Ask.{Ask}
 use Rattle.cores.specs.declared.Ask.the-variants.{Nothing, NotZero, SomeLink}
 use Rattle.cores.specs.declared.Entry.{Entry}
@@ -88,11 +88,11 @@ module _ (f : List ℕ) (ask : Ask) (s t : ℕ) (w w′ : List ℕ) {a : Entry} 
   ]
 
 module _ {f : List ℕ} {s t : ℕ} {w w₁ : List ℕ} {n m : ℕ} (i : Entered f s t w w₁ n m) where
-  -- the rows of the table can be walked
-  pub entered-rows : Small n m × Rows n m w₁
-  entered-rows =
+  -- the table holds a graph, whose rows can be walked
+  pub entered-held : Small n m × Held n m w₁
+  entered-held =
       let h = i .accepted .sound .header in
-      (record { order = omega (arith, i .order); size = omega (arith, i .size) }, rw (i .tabled .order) at (i .tabled .indexed .rows))
+      (record { order = omega (arith, i .order); size = omega (arith, i .size) }, record { graph = graphOf f; tabled = i .tabled })
 
   -- what a walk leaves past the entries that are needed is what was there at first
   pub entered-kept : {w₂ : List ℕ} → Kept n m w₁ w₂ → WorkKept f w w₂

@@ -1,8 +1,9 @@
 -- One row or column: what the last core of it that a climb reaches comes before, and what the best comes before where the core is empty at its
--- start.
-use Prim.Native.Nat.{ℕ, _<_, _≤_}
+-- start. Where x or y is fixed at 1, the last core is that of the longest row.
+use Prim.Native.Nat.{ℕ, _+_, _*_, _<_, _≤_}
 use mathlib.Core.List.{List}
 use native.Mathlib.Nat.{le-trans}
+use native.Mathlib.Omega.{arith}
 use Rattle.graph.specs.Graph.{Graph}
 use Rattle.graph.specs.Shapes.{Closed}
 use Rattle.graph.specs.Core.{Nonempty, Before}
@@ -10,8 +11,11 @@ use Rattle.graph.proofs.Search.{before-refl, level-before, level-across-before,
 use Rattle.network.specs.declared.Side.{Side}
 use Rattle.network.specs.declared.Side.the-variants.{Source, Target}
 use Rattle.peeling.specs.Peeling.{Tabled, Kept}
-use Rattle.climbing.specs.Climbs.{Reached, LevelOf, Climbed}
+use Rattle.peeling.proofs.Kept.{kept-same}
+use Rattle.climbing.specs.Climbs.{Reached, LevelOf, rising, Longest, Climbed}
 use Rattle.climbing.proofs.Levels.{climbed-level}
+use Rattle.climbing.proofs.Unreached.{longest-stops}
+use Rattle.climbing.proofs.Stars.{longest-sources, longest-targets}
 use Rattle.finding.specs.declared.Best.{Best}
 use Rattle.finding.specs.Searches.{riseOf, xAt, yAt, InRange, FirstBefore, Tries}
 
@@ -61,3 +65,21 @@ module _ {n m : ℕ} {side : Side} {fixed s : ℕ} {b : Best} {w w′ : List ℕ
         before = i .high last l;
         all = λ g t. line-before side fixed last p (climbed-level (riseOf side) fixed s c (λ h. l) t);
       }
+
+-- with 1 fixed, the core at the longest row of the places that rise is not empty
+longest-reached : (side : Side) {g : Graph} {n m : ℕ} {w : List ℕ} {k : ℕ} → Tabled g n m w → 1 ≤ k
+    → Longest (rising n (riseOf side)) w (2 * n) k → Reached g (riseOf side) 1 k
+longest-reached Source t l o = longest-targets t l o
+longest-reached Target t l o = longest-sources t l o
+
+-- and the next one is, so a climb from no later than there would come to it
+pub longest-climbed : (side : Side) {n m s : ℕ} {w : List ℕ} {k : ℕ} → Longest (rising n (riseOf side)) w (2 * n) k
+    → 1 ≤ s → s ≤ k → k < 65536 → Climbed n m (riseOf side) 1 s w w k
+longest-climbed side {w = w} {k} o i l f =
+    record {
+      from = omega arith;
+      fits = λ h. f;
+      holds = λ g t h. longest-reached side t (le-trans i l) o;
+      stops = λ g t. longest-stops (riseOf side) 1 (k + 1) o (omega arith) t;
+      kept = kept-same w;
+    }

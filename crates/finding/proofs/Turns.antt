@@ -1,7 +1,7 @@
 -- The search under way: what is tried so far, and that the best is the best of it.
 use Prim.Native.Nat.{ℕ, suc, _+_, _-_, _*_, _<_, _≤_}
 use mathlib.Core.List.{List}
-use mathlib.Core.Path.{_≡_, sym}
+use mathlib.Core.Path.{_≡_}
 use native.Mathlib.Omega.{arith}
 use Rattle.graph.specs.Graph.{Graph}
 use Rattle.graph.specs.Core.{Nonempty, EqualLevel, Before}
@@ -49,11 +49,7 @@ search-begins {n} {m} {k} w l =
       best = λ g t e. best-start (λ p. e .holds (factors k k p .0));
     }
 
--- what is kept is kept the other way round too
-pub kept-back : {n m : ℕ} {w w′ : List ℕ} → Kept n m w w′ → Kept n m w′ w
-kept-back k = record { same-length = sym (k .same-length); index = λ i l. sym (k .index i l); past = sym (k .past) }
-
--- so a search is one from every table with the same rows
+-- a search is one from every table with the same rows
 pub search-from : {n m k : ℕ} {w w′ w″ : List ℕ} {side : Side} {fixed : ℕ} {b : Best} → Kept n m w w′ → Searching n m k w′ w″ side fixed b → Searching n m k w w″ side fixed b
 search-from h s =
     record {

@@ -11,8 +11,8 @@ ghost use mathlib.Core.Path.{_≡_};
 ghost use Prim.Native.Nat.{ℕ, _+_, _*_, _<_, _≤_};
 ghost use lib.ListN.{length};
 ghost use Rattle.network.specs.File.{mostMembers};
-ghost use Rattle.peeling.specs.Peeling.{Small, Rows, startOf};
-ghost use Rattle.climbing.specs.Climbs.{NoLonger};
+ghost use Rattle.peeling.specs.Peeling.{Small, Held, startOf};
+ghost use Rattle.climbing.specs.Climbs.{rising, Longest, Climbed};
 ghost use Rattle.finding.specs.Searches.{riseOf, InRange, FirstBefore, Tries, Searched, FoundIn};
 
 // What rises where the need of a side is fixed.
@@ -30,7 +30,8 @@ fn rise_of(side: Side) -> Rise
 fn longest_of(work: &[u16], order: usize, side: Side) -> usize
     requires { ⌜ (order ≤ mostMembers) × (2 * order < length (now work)) ⌝ }
     requires { ⌜ ((p : ℕ) → p < 2 * order → startOf (now work) p ≤ startOf (now work) (p + 1)) ⌝ }
-    ensures { λ r. ⌜ NoLonger order (riseOf side) (now (work .entry)) r ⌝ }
+    ensures { λ r. ⌜ Longest (rising order (riseOf side)) (now (work .entry)) (2 * order) r ⌝ }
+    ensures { λ r. ⌜ r < 65536 ⌝ }
 {
     match side {
         Side::Source => longest_row(work, order, 2 * order),
@@ -56,6 +57,29 @@ fn start_of(side: Side, fixed: usize, best: Best) -> usize
     if x < best.x { quotient } else { quotient + 1 }
 }
 
+// The last number from `start` on at which the core of a row or column is not empty, or start - 1. Of x = 1, or of y = 1, it is `longest`, the
+// most edges of a place that rises: that place and all that it is joined to are such a pair, and nothing is climbed.
+fn last_of(
+    work: &mut [u16],
+    order: usize,
+    size: usize,
+    side: Side,
+    longest: usize,
+    fixed: usize,
+    start: usize,
+) -> usize
+    requires { ⌜ Small order size ⌝ }
+    requires { ⌜ Held order size (now work) ⌝ }
+    requires { ⌜ Longest (rising order (riseOf side)) (now work) (2 * order) longest ⌝ }
+    requires { ⌜ (1 ≤ start) × (start ≤ longest) × (longest < 65536) ⌝ }
+    ensures { λ r. ⌜ Climbed order size (riseOf side) fixed start (now (work .entry)) (now (work .exit)) r ⌝ }
+{
+    if fixed == 1 {
+        return longest;
+    }
+    climb(work, order, size, rise_of(side), fixed, start)
+}
+
 // The better of the best and the last core of a row or column. Where it begins past `longest`, the most edges of a place that rises, no core from
 // there on has anybody, and nothing is climbed.
 fn try_one(
@@ -68,8 +92,9 @@ fn try_one(
     best: Best,
 ) -> Best
     requires { ⌜ Small order size ⌝ }
-    requires { ⌜ Rows order size (now work) ⌝ }
-    requires { ⌜ NoLonger order (riseOf side) (now work) longest ⌝ }
+    requires { ⌜ Held order size (now work) ⌝ }
+    requires { ⌜ Longest (rising order (riseOf side)) (now work) (2 * order) longest ⌝ }
+    requires { ⌜ longest < 65536 ⌝ }
     requires { ⌜ (1 ≤ fixed) × (fixed < 65536) ⌝ }
     requires { ⌜ InRange best ⌝ }
     ensures { λ r. ⌜ Tries order size side fixed best (now (work .entry)) (now (work .exit)) r ⌝ }
@@ -78,7 +103,7 @@ fn try_one(
     if longest < start {
         return best;
     }
-    let last = climb(work, order, size, rise_of(side), fixed, start);
+    let last = last_of(work, order, size, side, longest, fixed, start);
     if last < start {
         return best;
     }
@@ -91,7 +116,7 @@ fn try_one(
 // Every row and then every column up to k. The longest row of the places that rise is the same for a whole side, so it is looked for once.
 fn search(work: &mut [u16], order: usize, size: usize, k: usize) -> Best
     requires { ⌜ Small order size ⌝ }
-    requires { ⌜ Rows order size (now work) ⌝ }
+    requires { ⌜ Held order size (now work) ⌝ }
     requires { ⌜ k < 65536 ⌝ }
     ensures { λ r. ⌜ Searched order size k (now (work .entry)) (now (work .exit)) r ⌝ }
 {
@@ -118,7 +143,7 @@ fn search(work: &mut [u16], order: usize, size: usize, k: usize) -> Best
 // 01: the finding, of every graph whose rows the table holds.
 pub fn find_in(work: &mut [u16], order: usize, size: usize, s: &mut [u8], t: &mut [u8]) -> Ring
     requires { ⌜ Small order size ⌝ }
-    requires { ⌜ Rows order size (now work) ⌝ }
+    requires { ⌜ Held order size (now work) ⌝ }
     requires { ⌜ (order ≤ length (now s)) × (order ≤ length (now t)) ⌝ }
     ensures { λ r. ⌜ FoundIn order size (now (work .entry)) (now (work .exit)) (now (s .entry)) (now (s .exit)) (now (t .entry)) (now (t .exit)) r ⌝ }
 {

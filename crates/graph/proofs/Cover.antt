@@ -4,7 +4,7 @@ use Prim.Native.Nat.{ℕ, _+_, _-_, _*_, _<_, _≤_}
 use mathlib.Core.Bool.{Bool, true, false, _&&_, and-false}
 use mathlib.Core.Logic.{_↔_}
 use mathlib.Core.Path.{_≡_, refl, sym, ap, _∙_}
-use native.Mathlib.Decide.{decLt}
+use native.Mathlib.Decide.{ℕ-discrete, decLt}
 use native.Mathlib.Nat.{add-comm, add-sub-cancel-left, add-left-cancel}
 use native.Mathlib.Omega.{arith}
 use borrow.Author.Tests.{lt-ltb, le-ltb, ne-eqb, eqb-true, eq-eqb}
@@ -17,7 +17,7 @@ use Rattle.graph.specs.Linkage.{degree, Settled, Surrounds}
 use Rattle.graph.specs.Cover.{cover, joined, need, targets, places}
 use Rattle.graph.proofs.Tests.{test-ext}
 use Rattle.graph.proofs.Sums.{sum-ext, sum-add, sum-none}
-use Rattle.graph.proofs.Degrees.{only, edges-out, edges-in}
+use Rattle.graph.proofs.Degrees.{only, without, edges-out, edges-in, edges-without, edges-without-in}
 use Rattle.graph.proofs.Exists.{dense-same}
 
 -- the places of an edge are places of the cover
@@ -52,6 +52,22 @@ joined-degree {g} k R p =
 pub joined-symmetric : (g : Graph) (p q : ℕ) → joined g p q ≡ joined g q p
 unfolding joined
 joined-symmetric g p q = add-comm _ _
+
+-- no edge joins two sources
+pub joined-sources : (g : Graph) (p q : ℕ) → p < g .order → q < g .order → joined g p q ≡ 0
+unfolding joined
+joined-sources g p q a b = omega (arith, none p q b, none q p a)
+  where
+    none : (p q : ℕ) → q < g .order → edges (cover g) (only p) (only q) ≡ 0
+    none p q b = sum-none _ (g .size) (λ e l. rw (ne-eqb (g .order + g .target e) q (λ t. omega arith), and-false))
+
+-- nor two targets
+pub joined-targets : {g : Graph} → Closed g → (p q : ℕ) → g .order ≤ p → g .order ≤ q → joined g p q ≡ 0
+unfolding joined
+joined-targets {g} k p q a b = omega (arith, none p q a, none q p b)
+  where
+    none : (p q : ℕ) → g .order ≤ p → edges (cover g) (only p) (only q) ≡ 0
+    none p q a = sum-none _ (g .size) (λ e l. rw (ne-eqb (g .source e) p (λ t. omega (arith, k .source-below e l))))
 
 -- as a source a vertex is joined to the targets in R
 pub degree-source : {g : Graph} → Closed g → (R : Group) {u : ℕ} → u < g .order → degree (joined g) (2 * g .order) R u ≡ outDegree g (targets g R) u
@@ -123,3 +139,26 @@ settled-core k R s r = record { dense = settled-dense k R .0 s; largest = surrou
 -- E of the pair is the sum of the degrees of its sources
 pub edges-places : {g : Graph} → Closed g → (R : Group) → edges g R (targets g R) ≡ sum (λ u. if (R u) (degree (joined g) (2 * g .order) R u)) (g .order)
 edges-places {g} k R = edges-out k R (targets g R) ∙ sum-ext (g .order) (λ u l. rw (degree-source k R l))
+
+-- no edge joins a place to itself
+no-loop : {g : Graph} → Closed g → (p : ℕ) → edges (cover g) (only p) (only p) ≡ 0
+no-loop {g} k p =
+    sum-none _ (g .size) (λ e l.
+    elim (ℕ-discrete (g .source e) p) [
+      | yes s ↦ rw (ne-eqb (g .order + g .target e) p (λ t. omega (arith, k .source-below e l)), eq-eqb (g .source e) p s)
+      | no s ↦ rw (ne-eqb (g .source e) p s)
+    ])
+
+-- E without a place is E less the place's degree
+pub edges-drop : {g : Graph} → Closed g → (R : Group) (p : ℕ) → p < 2 * g .order → R p ≡ true
+    → edges g R (targets g R) ≡ edges g (without R p) (targets g (without R p)) + degree (joined g) (2 * g .order) R p
+edges-drop {g} k R p l h =
+    let c = closed-cover k in
+    omega (
+      arith,
+      edges-without c R R p l h,
+      edges-without-in c (without R p) R p l h,
+      edges-without c R (only p) p l h,
+      no-loop k p,
+      joined-degree k R p,
+    )

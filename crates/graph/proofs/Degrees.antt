@@ -79,6 +79,11 @@ card-without g S u l h = sum-without (λ w. 1) S (g .order) u l h
 pub edges-without : {g : Graph} → Closed g → (S T : Group) (u : ℕ) → u < g .order → S u ≡ true → edges g S T ≡ edges g (without S u) T + outDegree g T u
 edges-without {g} k S T u l h = edges-out k S T ∙ sum-without (outDegree g T) S (g .order) u l h ∙ rw (edges-out k (without S u) T)
 
+-- in the mirrored graph those into it
+pub edges-without-in : {g : Graph} → Closed g → (S T : Group) (v : ℕ) → v < g .order → T v ≡ true → edges g S T ≡ edges g S (without T v) + inDegree g S v
+edges-without-in {g} k S T v l h =
+    sym (edges-reverse g S T) ∙ edges-without (closed-reverse k) T S v l h ∙ rw (edges-reverse g S (without T v), edges-reverse g S (only v))
+
 -- a smaller group that lacks the vertex is in what is left
 pub inside-without : (g : Graph) {R S : Group} (u : ℕ) → Inside g R S → R u ≢ true → Inside g R (without S u)
 inside-without g {R} {S} u p h w l k = rw (ne-eqb w u (λ e. h (rw e at k)), p w l k)

@@ -19,5 +19,6 @@ pub mod Linkage
 pub mod Links
 pub mod Monotone
 pub mod Cover
+pub mod Stars
 pub mod Starts
 pub mod Ascending

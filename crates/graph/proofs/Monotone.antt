@@ -1,6 +1,6 @@
 -- What does not fall from one number to the next is monotone.
-use Prim.Native.Nat.{ℕ, zero, suc, _+_, _<_, _≤_}
-use mathlib.Core.Path.{_≡_}
+use Prim.Native.Nat.{ℕ, zero, suc, _+_, _-_, _<_, _≤_}
+use mathlib.Core.Path.{_≡_, ap}
 use native.Mathlib.Nat.{le-refl}
 use native.Mathlib.Numerals.{add-one}
 use native.Mathlib.Omega.{arith}
@@ -22,3 +22,9 @@ monotone f N up p (suc q) l h =
 pub sum-part : (f : ℕ → ℕ) (k n : ℕ) → k ≤ n → sum f k ≤ sum f n
 unfolding sum
 sum-part f k n l = monotone (sum f) n (λ p h. rw (add-one p) (omega arith)) k n l (le-refl n)
+
+-- the steps from each number to the next are together the way from the first to the last
+pub sum-steps : (f : ℕ → ℕ) (n : ℕ) → ((p : ℕ) → p < n → f p ≤ f (p + 1)) → sum (λ p. f (p + 1) - f p) n + f 0 ≡ f n
+unfolding sum
+sum-steps f zero up = omega arith
+sum-steps f (suc n) up = omega (arith, sum-steps f n (λ p l. up p (omega arith)), up n (omega arith), ap f (add-one n))

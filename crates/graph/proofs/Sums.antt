@@ -4,7 +4,7 @@ use mathlib.Core.Bool.{Bool, true, false}
 use mathlib.Core.Logic.{⊎-elim}
 use mathlib.Core.Path.{_≡_, refl, sym, ap, _∙_}
 use native.Mathlib.Decide.{decLe}
-use native.Mathlib.Nat.{ne-of-lt, eq-or-lt-of-le, le-of-suc-le-suc}
+use native.Mathlib.Nat.{add-zero, add-suc, ne-of-lt, eq-or-lt-of-le, le-of-suc-le-suc}
 use native.Mathlib.Numerals.{add-one}
 use native.Mathlib.Omega.{arith}
 use lib.Dec.{eqb}
@@ -60,6 +60,12 @@ sum-ones (suc n) = omega (arith, sum-ones n)
 -- no more tests hold than there are
 pub sum-tests : (p : ℕ → Bool) (n : ℕ) → sum (λ i. if (p i) 1) n ≤ n
 sum-tests p n = omega (arith, sum-mono {h = λ i. 1} n (λ i l. if-le (p i) 1), sum-ones n)
+
+-- the first a terms and the b after them
+pub sum-after : (f : ℕ → ℕ) (a b : ℕ) → sum f (a + b) ≡ sum f a + sum (λ i. f (a + i)) b
+unfolding sum
+sum-after f a zero = rw (add-zero a) (omega arith)
+sum-after f a (suc b) = rw (add-suc a b) (omega (arith, sum-after f a b))
 
 -- a factor of every term
 pub sum-times : (c : ℕ) (f : ℕ → ℕ) (n : ℕ) → sum (λ i. c * f i) n ≡ c * sum f n

@@ -75,3 +75,8 @@ if-other k i w e = rw (ne-eqb _ _ e)
 -- a test for equal numbers holds either way round
 pub eqb-sym : (a b : ℕ) → eqb a b ≡ eqb b a
 eqb-sym a b = elim (ℕ-discrete a b) [ yes e ↦ eq-eqb a b e ∙ sym (eq-eqb b a (sym e)) | no h ↦ ne-eqb a b h ∙ sym (ne-eqb b a (λ e. h (sym e))) ]
+
+-- nothing counts as nothing
+pub if-zero : (b : Bool) → if b 0 ≡ 0
+if-zero true = refl
+if-zero false = refl

@@ -1,5 +1,5 @@
--- The answer of the core call: the groups by the degrees of a peel whose queue is drained are the core, the peel's sizes are theirs, and the
--- degrees of the sources add up to the edges between them.
+-- The answer of the core call: the groups by the degrees of a peel whose queue is drained are the core, the peel's sizes are theirs, and its
+-- total is E of them, since every place that is queued is dropped.
 use Prim.Native.Nat.{ℕ, _+_, _*_, _<_}
 use mathlib.Core.Bool.{true}
 use mathlib.Core.List.{List, _++_}
@@ -8,7 +8,6 @@ use native.Mathlib.Nat.{add-assoc}
 use native.Mathlib.Omega.{arith}
 use lib.Dec.{leb}
 use lib.ListN.{drop}
-use Rattle.graph.specs.Range.{sum, if}
 use Rattle.graph.specs.Graph.{Graph, Group, card, edges}
 use Rattle.graph.specs.Core.{Core}
 use Rattle.graph.specs.Shapes.{Same}
@@ -21,10 +20,10 @@ use Rattle.network.specs.Groups.{groupOf, bytesOf}
 use Rattle.network.proofs.Groups.{totals-same}
 use Rattle.peeling.specs.declared.Peel.{Peel}
 use Rattle.peeling.specs.declared.Scope.{Scope}
-use Rattle.peeling.specs.Peeling.{degreeOf, left, Indexed, Tabled, Peeling, Ended}
-use Rattle.peeling.specs.Groups.{atLeast, sumAtLeast, CoreIn}
+use Rattle.peeling.specs.Peeling.{degreeOf, left, standing, Indexed, Tabled, Peeling, Ended}
+use Rattle.peeling.specs.Groups.{atLeast, CoreIn}
 use Rattle.peeling.proofs.Kept.{tabled-kept}
-use Rattle.peeling.proofs.Finished.{left-source, left-target, finished-core, finished-edges}
+use Rattle.peeling.proofs.Finished.{left-source, left-target, finished-core}
 use Rattle.peeling.proofs.Bytes.{written-group, written-in}
 
 -- what a peel by a scope is for a graph of the scope's numbers of vertices and edges
@@ -62,18 +61,21 @@ module _ {c : Scope} {w w′ : List ℕ} {p : Peel} (e : Ended true c w w′ p) 
   ended-targets =
       ended-peeling t e .queued .sizes .targets ∙ sum-ext (g .order) (λ v l. rw (targets-same v l))
 
-  -- and its table their edges
-  ended-edges : sum (λ u. if (leb (c .x) (degreeOf (g .order) (c .size) w′ u)) (degreeOf (g .order) (c .size) w′ u)) (g .order) ≡ edges g A B
+  -- and its total is E of them
+  ended-edges : p .edges ≡ edges g A B
   ended-edges =
-      sum-ext (g .order) (λ u l. rw (left-source (c .x) (c .y) (t .closed) (ended-indexed t e) (ended-peeling t e) u l))
-      ∙ sym (finished-edges (c .x) (c .y) (t .closed) (ended-indexed t e) (ended-peeling t e) (e .drained refl))
-      ∙ edges-same (t .closed) sources-same targets-same
+      e .peeling .total .counted g (tabled-kept t (e .kept))
+      ∙ edges-same (t .closed) (λ u l. all-dropped u ∙ sources-same u l) (λ v l. all-dropped (g .order + v) ∙ targets-same v l)
+    where
+      -- what is not dropped is what is left
+      all-dropped : (q : ℕ) → standing (c .order) (c .size) w′ p q ≡ left (g .order) (c .size) w′ p q
+      all-dropped q = rw (t .order, e .drained refl)
 
 module _ {c : Scope} {w w′ s′ t′ : List ℕ} {p : Peel} {r : Totals} (s t : List ℕ) {at : ℕ} (e : Ended true c w w′ p)
     (start : at ≡ 2 * c .order + 1 + 2 * c .size)
     (first : s′ ≡ bytesOf (c .order) (atLeast w′ at (c .x)) ++ drop (c .order) s)
     (second : t′ ≡ bytesOf (c .order) (atLeast w′ (at + c .order) (c .y)) ++ drop (c .order) t)
-    (sources : r .sources ≡ p .sources) (targets : r .targets ≡ p .targets) (total : r .edges ≡ sumAtLeast w′ at (c .x) (c .order)) where
+    (sources : r .sources ≡ p .sources) (targets : r .targets ≡ p .targets) (total : r .edges ≡ p .edges) where
   -- the bytes of the first group are by the degrees of the sources
   bytes-source : {g : Graph} → Tabled g (c .order) (c .size) w → (u : ℕ) → u < g .order
       → groupOf s′ u ≡ leb (c .x) (degreeOf (g .order) (c .size) w′ u)
@@ -92,15 +94,10 @@ module _ {c : Scope} {w w′ s′ t′ : List ℕ} {p : Peel} {r : Totals} (s t 
         counted =
             λ g k.
             totals-same
-            (total ∙ same-total k ∙ ended-edges e k (bytes-source k) (bytes-target k))
+            (total ∙ ended-edges e k (bytes-source k) (bytes-target k))
             (sources ∙ ended-sources e k (bytes-source k) (bytes-target k))
             (targets ∙ ended-targets e k (bytes-source k) (bytes-target k));
         sources = written-in (c .order) (atLeast w′ at (c .x)) s first;
         targets = written-in (c .order) (atLeast w′ (at + c .order) (c .y)) t second;
         kept = e .kept;
       }
-    where
-      same-total : {g : Graph} → Tabled g (c .order) (c .size) w
-          → sumAtLeast w′ at (c .x) (c .order)
-          ≡ sum (λ u. if (leb (c .x) (degreeOf (g .order) (c .size) w′ u)) (degreeOf (g .order) (c .size) w′ u)) (g .order)
-      same-total k = rw (k .order, start)

@@ -13,6 +13,7 @@ use lib.Dec.{leb}
 use Rattle.peeling.specs.declared.Peel.{Peel}
 use Rattle.peeling.specs.Peeling.{rowLength, degreeOf, queueOf, Queued, Dropping, Kept, Pushable, pushed, withQueued, loweredPeel, loweredTable}
 use Rattle.peeling.proofs.Pushes.{Step, queued-room, queued-stays, queued-grows, full-keeps, full-degree, full-queue}
+use Rattle.peeling.proofs.Totals.{total-kept}
 use Rattle.peeling.proofs.Losses.{other, drop-inside, less, less-keeps, less-queue, less-same, less-other, less-least, passed}
 
 -- a number that is not c is at least c exactly when the number before it is
@@ -29,9 +30,15 @@ module _ {n m : ℕ} {need : ℕ → ℕ} {w : List ℕ} {s : Peel} {place k : �
 
   -- the drop has come one entry further with a queue that goes by the degrees
   further : {w′ : List ℕ} {s′ : Peel} → Kept n m w w′ → ((i : ℕ) → i < s .head → queueOf n m w i ≡ queueOf n m w′ i)
-      → ((p : ℕ) → p < 2 * n → degreeOf n m w′ p ≡ degreeOf n m (less d l) p) → s′ .head ≡ s .head → Queued n m need w′ s′
-      → Dropping n m need w′ s′ place (k + 1)
-  further kept before same h q = record { queued = q; is-place = d .is-place; degrees = rw h (passed d l kept before same) }
+      → ((p : ℕ) → p < 2 * n → degreeOf n m w′ p ≡ degreeOf n m (less d l) p) → s′ .head ≡ s .head → s′ .edges ≡ s .edges
+      → Queued n m need w′ s′ → Dropping n m need w′ s′ place (k + 1)
+  further kept before same h e q =
+      record {
+        queued = q;
+        is-place = d .is-place;
+        degrees = rw h (passed d l kept before same);
+        total = total-kept (d .total) kept before h e;
+      }
 
   -- a step that changes this one degree, and no need
   step : Step n m need need w (less d l) s
@@ -40,7 +47,7 @@ module _ {n m : ℕ} {need : ℕ → ℕ} {w : List ℕ} {s : Peel} {place k : �
   -- a place that has edges to spare is not pushed
   drop-stays : degreeOf n m w loser ≢ need loser → Dropping n m need (less d l) s place (k + 1)
   drop-stays h =
-      further (less-keeps d l) (λ i b. less-queue d l i) (λ p b. refl) refl (queued-stays step enough)
+      further (less-keeps d l) (λ i b. less-queue d l i) (λ p b. refl) refl refl (queued-stays step enough)
     where
       -- no place has become short
       enough : (p : ℕ) → p < 2 * n → leb (need p) (degreeOf n m w p) ≡ leb (need p) (degreeOf n m (less d l) p)
@@ -70,6 +77,7 @@ module _ {n m : ℕ} {need : ℕ → ℕ} {w : List ℕ} {s : Peel} {place k : �
         further push-keeps
         (λ i b. full-queue step loser (drop-inside d l) just-enough i (omega (arith, d .queued .waiting)))
         (full-degree step loser (drop-inside d l) just-enough)
+        refl
         refl
         (queued-grows step loser (drop-inside d l) just-enough
         (omega (arith, less-same d l))

@@ -1,22 +1,19 @@
 -- What a peel of a graph's rows leaves holds every settled set: where a side of it is empty, the core is. When the peel has run to its end no
--- place that is left is short, and they are the core. Its sizes are those of the core's two groups, and the degrees of its sources
--- add up to the edges between them.
+-- place that is left is short, and they are the core. Its sizes are those of the core's two groups.
 use Prim.Native.Nat.{ℕ, _+_, _*_, _<_, _≤_}
 use mathlib.Core.List.{List}
 use mathlib.Core.Path.{_≡_, sym, _∙_}
 use native.Mathlib.Omega.{arith}
 use borrow.Author.Tests.{leb-true}
 use lib.Dec.{leb}
-use Rattle.graph.specs.Range.{sum, if}
-use Rattle.graph.specs.Graph.{Graph, Group, edges}
+use Rattle.graph.specs.Graph.{Graph, Group}
 use Rattle.graph.specs.Shapes.{Closed}
 use Rattle.graph.specs.Core.{Core, Nonempty}
 use Rattle.graph.specs.Linkage.{degree, Settled, Surrounds}
 use Rattle.graph.specs.Cover.{joined, need, targets}
-use Rattle.graph.proofs.Sums.{sum-ext}
 use Rattle.graph.proofs.Degrees.{card-mono}
 use Rattle.graph.proofs.Links.{degree-links, surrounds-links}
-use Rattle.graph.proofs.Cover.{surrounds-covers, settled-core, edges-places, need-source, need-target}
+use Rattle.graph.proofs.Cover.{surrounds-covers, settled-core, need-source, need-target}
 use Rattle.peeling.specs.declared.Peel.{Peel}
 use Rattle.peeling.specs.Peeling.{degreeOf, between, left, Indexed, Peeling}
 
@@ -56,7 +53,3 @@ module _ {g : Graph} (x y : ℕ) {m : ℕ} {w : List ℕ} {s : Peel} (c : Closed
     -- and are the core
     pub finished-core : Core g x y rest (targets g rest)
     finished-core = settled-core c rest settled surrounds
-
-    -- the table has its edges
-    pub finished-edges : edges g rest (targets g rest) ≡ sum (λ u. if (rest u) (degreeOf (g .order) m w u)) (g .order)
-    finished-edges = edges-places c rest ∙ sum-ext (g .order) (λ u l. rw (finished-degree u (omega arith)))

@@ -30,6 +30,10 @@ kept-next a b =
       past = b .past ∙ a .past;
     }
 
+-- and the other way round too
+pub kept-back : {n m : ℕ} {w w′ : List ℕ} → Kept n m w w′ → Kept n m w′ w
+kept-back k = record { same-length = sym (k .same-length); index = λ i l. sym (k .index i l); past = sym (k .past) }
+
 -- a store past the rows, to an entry that a work table needs, keeps them
 pub kept-set : (n m : ℕ) (w : List ℕ) (i v : ℕ) → 2 * n + 1 + 2 * m ≤ i → i < 2 * m + 6 * n + 2 → Kept n m w (set w i v)
 kept-set n m w i v l h =

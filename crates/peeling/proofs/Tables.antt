@@ -14,6 +14,10 @@ use Rattle.peeling.specs.Peeling.{startOf, rowLength, degreeOf, queueOf,
 pub start-last : {n m : ℕ} {w : List ℕ} → Rows n m w → (p : ℕ) → p ≤ 2 * n → startOf w p ≤ 2 * m
 start-last {n} {m} {w} r p l = omega (arith, monotone (startOf w) (2 * n) (r .ascending) p (2 * n) l (le-refl _), r .last)
 
+-- nor is the first past that of the targets
+pub start-first : {n m : ℕ} {w : List ℕ} → Rows n m w → startOf w 0 ≤ startOf w n
+start-first {n} {w = w} r = monotone (startOf w) (2 * n) (r .ascending) 0 n (omega arith) (omega arith)
+
 -- so an entry of a row is one of the rows
 pub row-inside : {n m : ℕ} {w : List ℕ} → Rows n m w → (p i : ℕ) → p < 2 * n → i < rowLength w p → startOf w p + i < 2 * m
 row-inside r p i l h = omega (arith, start-last r (p + 1) (omega arith))

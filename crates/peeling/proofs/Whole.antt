@@ -1,5 +1,6 @@
--- Before anything is asked of a place no place is short: nothing is queued, and each degree is the length of the place's row.
-use Prim.Native.Nat.{ℕ, _+_, _*_, _<_}
+-- Before anything is asked of a place no place is short: nothing is queued, each degree is the length of the place's row, and the total is what
+-- the rows of the sources hold, which is E of everyone.
+use Prim.Native.Nat.{ℕ, _+_, _-_, _*_, _<_}
 use mathlib.Core.Bool.{true, false, Bool, cond}
 use mathlib.Core.List.{List}
 use mathlib.Core.Path.{_≡_, refl, sym, _∙_}
@@ -9,12 +10,16 @@ use borrow.Author.Tests.{le-leb}
 use lib.Dec.{eqb, ltb}
 use Rattle.graph.specs.Range.{if}
 use Rattle.graph.specs.Linkage.{degree}
-use Rattle.graph.specs.Cover.{need}
+use Rattle.graph.specs.Graph.{Graph, edges}
+use Rattle.graph.specs.Cover.{need, targets}
 use Rattle.graph.proofs.Sums.{sum-ext, sum-swap, sum-pick, sum-ones, below-suc}
+use Rattle.graph.proofs.Monotone.{sum-steps}
 use Rattle.graph.proofs.Linkage.{surrounds-all}
-use Rattle.peeling.specs.Peeling.{startOf, rowLength, rowEntry, degreeOf, queueOf, entries, between, live, Rows, Peeling, Kept, withDegree}
+use Rattle.graph.proofs.Cover.{edges-places}
+use Rattle.peeling.specs.Peeling.{startOf, rowLength, rowEntry, degreeOf, queueOf, entries, between, live, Rows, Tabled, Held, Peeling, Kept, withDegree}
 use Rattle.peeling.proofs.Tables.{with-degree-same, with-degree-other}
 use Rattle.peeling.proofs.Kept.{kept-next, kept-set, start-kept, rows-kept}
+use Rattle.peeling.proofs.Totals.{tabled-rows, held-rows, held-kept, place-degree}
 
 -- the edges of a place to all places are the entries of its row
 pub row-degree : {n m : ℕ} {w : List ℕ} → Rows n m w → (queue : ℕ → ℕ) (p : ℕ) → p < 2 * n
@@ -51,11 +56,24 @@ none-needed n p = either (ltb p n)
     either true = refl
     either false = refl
 
--- so a table with the degrees of whole rows holds the peel that has not begun
-pub whole-peel : {n m : ℕ} {w w′ : List ℕ} → Rows n m w → Kept n m w w′ → ((p : ℕ) → p < 2 * n → degreeOf n m w′ p ≡ rowLength w p)
-    → Peeling n m (need n 0 0) w′ (record { head = 0; tail = 0; sources = n; targets = n })
+-- E of everyone is what the rows of the sources hold, which stand one after the other
+whole-edges : {g : Graph} {n m : ℕ} {w : List ℕ} → Tabled g n m w → (queue : ℕ → ℕ) → edges g (live queue 0) (targets g (live queue 0)) ≡ startOf w n - startOf w 0
 unfolding live
-whole-peel {n} {m} {w} {w′} r k e =
+whole-edges {g} {m = m} {w = w} t queue =
+    rw (← t .order)
+    omega (
+      arith,
+      edges-places (t .closed) (live queue 0),
+      sum-ext (g .order) (λ u l. sym (place-degree t (live queue 0) u (omega (arith, t .order))) ∙ row-degree (tabled-rows t) queue u (omega (arith, t .order))),
+      sum-steps (startOf w) (g .order) (λ p l. t .indexed .rows .ascending p (omega arith)),
+    )
+
+-- so a table with the degrees of whole rows holds the peel that has not begun
+pub whole-peel : {n m : ℕ} {w w′ : List ℕ} → Held n m w → Kept n m w w′ → ((p : ℕ) → p < 2 * n → degreeOf n m w′ p ≡ rowLength w p)
+    → {d : ℕ} → (d ≡ startOf w′ n - startOf w′ 0) × (d < 65536) → Peeling n m (need n 0 0) w′ (record { head = 0; tail = 0; sources = n; targets = n; edges = d })
+unfolding live
+whole-peel {n} {m} {w} {w′} h k e f =
+    let r = held-rows h in
     record {
       queued =
           record {
@@ -72,4 +90,5 @@ whole-peel {n} {m} {w} {w′} r k e =
           };
       degrees = λ p l.
           e p l ∙ sym (row-degree (rows-kept r k) (queueOf n m w′) p l ∙ rw (start-kept r k p (omega arith), start-kept r k (p + 1) (omega arith)));
+      total = record { held = held-kept h k; small = f .1; counted = λ g t. f .0 ∙ sym (whole-edges t (queueOf n m w′)) };
     }

@@ -4,7 +4,6 @@ use mathlib.Core.List.{List}
 use mathlib.Core.Path.{_≡_}
 use lib.Dec.{leb}
 use lib.ListN.{getD}
-use Rattle.graph.specs.Range.{sum, if}
 use Rattle.graph.specs.Graph.{Graph, Group}
 use Rattle.graph.specs.Core.{Core}
 use Rattle.network.specs.declared.Totals.{Totals}
@@ -15,10 +14,6 @@ use Rattle.peeling.specs.Peeling.{Tabled, Kept}
 -- those u for which entry i + u of the table is at least k
 abbrev pub atLeast : List ℕ → ℕ → ℕ → Group
 atLeast w i k u = leb k (getD w (i + u) 0)
-
--- these entries together
-abbrev pub sumAtLeast : List ℕ → ℕ → ℕ → ℕ → ℕ
-sumAtLeast w i k = sum (λ u. if (atLeast w i k u) (getD w (i + u) 0))
 
 -- the groups written are the core of every graph that the table holds, and the numbers returned are theirs
 pub record CoreIn (c : Scope) (w w′ s s′ t t′ : List ℕ) (r : Totals) : Type 0 where

@@ -1,2 +1,3 @@
 pub mod Peeling
+pub mod Recounts
 pub mod Groups

@@ -6,10 +6,10 @@ use mathlib.Core.Path.{_≡_}
 use lib.Dec.{eqb, leb, ltb}
 use lib.ListN.{length, getD, set, drop}
 use Rattle.graph.specs.Range.{sum, if}
-use Rattle.graph.specs.Graph.{Graph, Group}
+use Rattle.graph.specs.Graph.{Graph, Group, edges}
 use Rattle.graph.specs.Shapes.{Closed}
 use Rattle.graph.specs.Linkage.{degree, Surrounds}
-use Rattle.graph.specs.Cover.{joined, need}
+use Rattle.graph.specs.Cover.{joined, need, targets}
 use Rattle.network.specs.File.{mostMembers, mostLinks}
 use Rattle.network.specs.Refusals.{workLength}
 use Rattle.peeling.specs.declared.Peel.{Peel}
@@ -23,6 +23,10 @@ pub record Small (n m : ℕ) : Type 0 where
 -- the edges that a place needs by a scope
 abbrev pub needOf : Scope → ℕ → ℕ
 needOf c = need (c .order) (c .x) (c .y)
+
+-- and those that the places of the other side need
+abbrev pub needAcross : Scope → ℕ → ℕ
+needAcross c p = need (c .order) (c .y) (c .x) p
 
 -- The table: 2n + 1 starts, 2m entries of rows, the degrees of 2n places, and the queue of at most 2n places. The row of place p is the
 -- entries from start p up to start p + 1, which are the places that it is joined to.
@@ -73,6 +77,11 @@ pub record Tabled (g : Graph) (n m : ℕ) (w : List ℕ) : Type 0 where
   pub indexed : Indexed g m w
   pub order : g .order ≡ n
 
+-- the table holds some graph
+pub record Held (n m : ℕ) (w : List ℕ) : Type 0 where
+  pub graph : Graph
+  pub tabled : Tabled graph n m w
+
 -- the places that are not among the first h of the queue
 unfoldable pub live : (ℕ → ℕ) → ℕ → Group
 live queue zero p = true
@@ -101,21 +110,34 @@ pub record Queued (n m : ℕ) (need : ℕ → ℕ) (w : List ℕ) (s : Peel) : T
   pub queue : Queue (between n w) (2 * n) need (degreeOf n m w) (queueOf n m w) (s .tail)
   pub sizes : Sizes n (left n m w s) s
 
--- the edges of a place to the places that are not dropped, which are those before the head
-abbrev pub undropped : ℕ → ℕ → List ℕ → Peel → ℕ → ℕ
-undropped n m w s = degree (between n w) (2 * n) (live (queueOf n m w) (s .head))
+-- the places that a peel has not dropped: those that are not before the head of its queue
+abbrev pub standing : ℕ → ℕ → List ℕ → Peel → Group
+standing n m w s = live (queueOf n m w) (s .head)
 
--- a peel: each degree is the number of edges to places not dropped
+-- the edges of a place to these
+abbrev pub undropped : ℕ → ℕ → List ℕ → Peel → ℕ → ℕ
+undropped n m w s = degree (between n w) (2 * n) (standing n m w s)
+
+-- The running total: of every graph that the table holds, it is E of the sources and targets not dropped.
+pub record Total (n m : ℕ) (w : List ℕ) (s : Peel) : Type 0 where
+  pub held : Held n m w
+  pub small : s .edges < 65536
+  pub counted : (g : Graph) → Tabled g n m w → s .edges ≡ edges g (standing n m w s) (targets g (standing n m w s))
+
+-- a peel: each degree is the number of edges to places not dropped, and the total is of those between these
 pub record Peeling (n m : ℕ) (need : ℕ → ℕ) (w : List ℕ) (s : Peel) : Type 0 where
   pub queued : Queued n m need w s
   pub degrees : (p : ℕ) → p < 2 * n → degreeOf n m w p ≡ undropped n m w s p
+  pub total : Total n m w s
 
 -- A peel in the midst of dropping a place, the last one before the head, with k entries of its row passed: each degree and the entries
--- passed are together what the degree was before, the edges to places not dropped and to this one. The queue goes by the degrees as they are.
+-- passed are together what the degree was before, the edges to places not dropped and to this one. The queue goes by the degrees as they are,
+-- and the total is without this place from the first entry on.
 pub record Dropping (n m : ℕ) (need : ℕ → ℕ) (w : List ℕ) (s : Peel) (place k : ℕ) : Type 0 where
   pub queued : Queued n m need w s
   pub is-place : place < 2 * n
   pub degrees : (p : ℕ) → p < 2 * n → degreeOf n m w p + entries n w place k p ≡ undropped n m w s p + between n w place p
+  pub total : Total n m w s
 
 -- starts and rows are unchanged, and so is what lies past the entries that a work table needs
 pub record Kept (n m : ℕ) (w w′ : List ℕ) : Type 0 where
@@ -151,6 +173,18 @@ pushed n s place =
       tail = s .tail + 1;
       sources = cond (ltb place n) (s .sources - 1) (s .sources);
       targets = cond (ltb place n) (s .targets) (s .targets - 1);
+      edges = s .edges;
+    }
+
+-- the peel with the place at the head dropped, and its degree out of the total
+abbrev pub past : ℕ → ℕ → List ℕ → Peel → Peel
+past n m w s =
+    record {
+      head = s .head + 1;
+      tail = s .tail;
+      sources = s .sources;
+      targets = s .targets;
+      edges = s .edges - degreeOf n m w (queueOf n m w (s .head));
     }
 
 -- the table with a place put at the queue's entry i

@@ -6,31 +6,19 @@ use network::Totals;
 use network::wide16;
 ghost use mathlib.Core.List.{_++_};
 ghost use mathlib.Core.Path.{_≡_};
-ghost use Prim.Native.Nat.{_+_, _<_, _≤_};
+ghost use Prim.Native.Nat.{_+_, _≤_};
 ghost use lib.Dec.{leb};
 ghost use lib.ListN.{length, drop};
 ghost use Rattle.graph.specs.Range.{if};
-ghost use Rattle.network.specs.File.{mostMembers};
 ghost use Rattle.network.specs.Groups.{bytesOf};
-ghost use Rattle.peeling.specs.Peeling.{Small, Rows};
-ghost use Rattle.peeling.specs.Groups.{atLeast, sumAtLeast, CoreIn};
+ghost use Rattle.peeling.specs.Peeling.{Small, Held};
+ghost use Rattle.peeling.specs.Groups.{atLeast, CoreIn};
 
 // The byte of a member whose degree this is.
 fn byte_of(degree: u16, least: usize) -> u8
     ensures { λ r. ⌜ r ≡ if (leb least degree) 1 ⌝ }
 {
     if least <= wide16(degree) { 1 } else { 0 }
-}
-
-// What a member whose degree this is counts.
-fn counted_degree(degree: u16, least: usize) -> u32
-    ensures { λ r. ⌜ (r ≡ if (leb least degree) degree) × (r < 65536) ⌝ }
-{
-    if least <= wide16(degree) {
-        degree as u32
-    } else {
-        0
-    }
 }
 
 // The group of those whose degree, from entry `at` of the table on, is at least `least`.
@@ -43,22 +31,10 @@ pub fn write_group(work: &[u16], at: usize, n: usize, least: usize, group: &mut 
     }
 }
 
-// The degrees of those together.
-pub fn edges_left(work: &[u16], at: usize, n: usize, least: usize) -> u32
-    requires { ⌜ (at + n ≤ length (now work)) × (n ≤ mostMembers) ⌝ }
-    ensures { λ r. ⌜ r ≡ sumAtLeast (now (work .entry)) at least n ⌝ }
-{
-    let mut total: u32 = 0;
-    for u in 0..n {
-        total += counted_degree(work[at + u], least);
-    }
-    total
-}
-
 // 01: the core, of every graph whose rows the table holds. The queue is drained, since the groups are read off the degrees.
 pub fn core_in(work: &mut [u16], scope: Scope, s: &mut [u8], t: &mut [u8]) -> Totals
     requires { ⌜ Small (scope .order) (scope .size) ⌝ }
-    requires { ⌜ Rows (scope .order) (scope .size) (now work) ⌝ }
+    requires { ⌜ Held (scope .order) (scope .size) (now work) ⌝ }
     requires { ⌜ (scope .order ≤ length (now s)) × (scope .order ≤ length (now t)) ⌝ }
     ensures { λ r. ⌜ CoreIn scope (now (work .entry)) (now (work .exit)) (now (s .entry)) (now (s .exit)) (now (t .entry)) (now (t .exit)) r ⌝ }
 {
@@ -68,7 +44,7 @@ pub fn core_in(work: &mut [u16], scope: Scope, s: &mut [u8], t: &mut [u8]) -> To
     write_group(work, at, n, scope.x, s);
     write_group(work, at + n, n, scope.y, t);
     Totals {
-        edges: edges_left(work, at, n, scope.x),
+        edges: peel.edges as u32,
         sources: peel.sources,
         targets: peel.targets,
     }

@@ -3,21 +3,34 @@
 use crate::Peel;
 use crate::Scope;
 use network::wide16;
+use std::num::wrapping_sub_usize;
 ghost use mathlib.Core.Bool.{not, _&&_, _||_};
 ghost use mathlib.Core.Logic.{_⊎_};
 ghost use mathlib.Core.Path.{_≡_};
 ghost use Prim.Native.Nat.{ℕ, _+_, _-_, _*_, _<_, _≤_};
-ghost use lib.Dec.{ltb};
+ghost use lib.Dec.{leb, ltb};
 ghost use lib.ListN.{length};
 ghost use Rattle.graph.specs.Cover as cover;
+ghost use Rattle.network.specs.File.{mostMembers};
 ghost use Rattle.network.specs.Refusals.{workLength};
-ghost use Rattle.peeling.specs.Peeling.{Small, Rows, Peeling, Dropping, Kept, Ended, Pushable, rowLength, degreeOf, needOf, emptied, raised, pushed, withDegree, withQueued, loweredPeel, loweredTable};
+ghost use Rattle.peeling.specs.Peeling.{Small, Rows, Held, Peeling, Dropping, Kept, Ended, Pushable, rowLength, degreeOf, queueOf, needOf, needAcross, emptied, raised, pushed, past, withDegree, withQueued, loweredPeel, loweredTable};
 
 // The edges that a place needs.
 pub fn need(scope: Scope, place: usize) -> usize
     ensures { λ r. ⌜ r ≡ needOf scope place ⌝ }
 {
     if place < scope.order {
+        scope.x
+    } else {
+        scope.y
+    }
+}
+
+// The edges that the places need to which a place is joined: they are of the other side.
+fn need_across(scope: Scope, place: usize) -> usize
+    ensures { λ r. ⌜ r ≡ needAcross scope place ⌝ }
+{
+    if scope.order <= place {
         scope.x
     } else {
         scope.y
@@ -38,6 +51,24 @@ fn queue_at(scope: Scope) -> usize
     ensures { λ r. ⌜ r ≡ 4 * scope .order + 1 + 2 * scope .size ⌝ }
 {
     4 * scope.order + 1 + 2 * scope.size
+}
+
+// The place put at entry `tail` of the queue. The table has one entry more than there are places, so there is one past every tail.
+fn put(work: &mut [u16], scope: Scope, tail: usize, place: usize)
+    requires { ⌜ Small (scope .order) (scope .size) ⌝ }
+    requires { ⌜ (workLength (scope .order) (scope .size) ≤ length (now work)) × (tail ≤ 2 * scope .order) × (place < 2 * scope .order) ⌝ }
+    ensures { λ _. ⌜ now (work .exit) ≡ withQueued (scope .order) (scope .size) (now (work .entry)) tail place ⌝ }
+{
+    let at = queue_at(scope) + tail;
+    work[at] = place as u16;
+}
+
+// Whether the degree is at least `least`, and less than `end`, by one test: what is less than `least` wraps round to a great number.
+fn is_between(least: usize, degree: usize, end: usize) -> bool
+    requires { ⌜ least ≤ end ⌝ }
+    ensures { λ r. ⌜ r ≡ (leb least degree && ltb degree end) ⌝ }
+{
+    wrapping_sub_usize(degree, least) < end - least
 }
 
 // The degree of a place in the whole graph: the length of its row.
@@ -64,19 +95,22 @@ fn fill_degrees(work: &mut [u16], scope: Scope)
 }
 
 impl Peel {
-    // The peel of the whole graph before anything is asked of a place.
+    // The peel of the whole graph before anything is asked of a place. The rows of the sources stand one after the other, and hold each edge once.
     pub fn fresh(work: &mut [u16], scope: Scope) -> Peel
         requires { ⌜ Small (scope .order) (scope .size) ⌝ }
-        requires { ⌜ Rows (scope .order) (scope .size) (now work) ⌝ }
+        requires { ⌜ Held (scope .order) (scope .size) (now work) ⌝ }
         ensures { λ r. ⌜ Peeling (scope .order) (scope .size) (cover.need (scope .order) 0 0) (now (work .exit)) r ⌝ }
         ensures { λ _. ⌜ Kept (scope .order) (scope .size) (now (work .entry)) (now (work .exit)) ⌝ }
     {
         fill_degrees(work, scope);
+        let n = scope.order;
+        let edges = wide16(work[n] - work[0]);
         Peel {
             head: 0,
             tail: 0,
-            sources: scope.order,
-            targets: scope.order,
+            sources: n,
+            targets: n,
+            edges,
         }
     }
 
@@ -88,8 +122,16 @@ impl Peel {
         ensures { λ r. ⌜ r ≡ pushed (scope .order) self place ⌝ }
         ensures { λ _. ⌜ now (work .exit) ≡ withQueued (scope .order) (scope .size) (now (work .entry)) (self .tail) place ⌝ }
     {
-        let at = queue_at(scope) + self.tail;
-        work[at] = place as u16;
+        put(work, scope, self.tail, place);
+        self.grown(scope, place)
+    }
+
+    // The peel whose queue has the place, which stands at the tail already: one place more, and one less on the place's own side.
+    fn grown(self, scope: Scope, place: usize) -> Peel
+        requires { ⌜ scope .order ≤ mostMembers ⌝ }
+        requires { ⌜ Pushable (scope .order) self place ⌝ }
+        ensures { λ r. ⌜ r ≡ pushed (scope .order) self place ⌝ }
+    {
         let longer = Peel {
             tail: self.tail + 1,
             ..self
@@ -108,7 +150,7 @@ impl Peel {
     }
 
     // The place pushed where its degree is enough for `scope`, and not for `next`. It needs what the first place of its side needs, which stays
-    // the same from place to place.
+    // the same from place to place. It is put past the tail in any case, so that no step hangs on a test that cannot be foreseen.
     fn raise(self, work: &mut [u16], scope: Scope, next: Scope, first: usize, place: usize) -> Peel
         requires { ⌜ Small (scope .order) (scope .size) ⌝ }
         requires { ⌜ (next .order ≡ scope .order) × (scope .x ≤ next .x) × (scope .y ≤ next .y) ⌝ }
@@ -121,15 +163,12 @@ impl Peel {
     {
         let at = degrees_at(scope) + place;
         let degree = wide16(work[at]);
-        let least = need(scope, first);
-        if degree < least {
-            return self;
+        put(work, scope, self.tail, place);
+        if is_between(need(scope, first), degree, need(next, first)) {
+            self.grown(scope, first)
+        } else {
+            self
         }
-        let next_least = need(next, first);
-        if next_least <= degree {
-            return self;
-        }
-        self.push(work, scope, place)
     }
 
     // Every place of one side, the sources from 0 on or the targets from n on, pushed whose degree is enough for `scope`, and not for `next`.
@@ -167,11 +206,11 @@ impl Peel {
             .raise_side(work, scope, next, scope.order)
     }
 
-    // One edge of the place lost, and the place pushed where that makes it short.
-    fn lower(self, work: &mut [u16], scope: Scope, place: usize) -> Peel
+    // One edge of the place lost, and the place, which needs `least`, pushed where that makes it short.
+    fn lower(self, work: &mut [u16], scope: Scope, least: usize, place: usize) -> Peel
         requires { ⌜ Small (scope .order) (scope .size) ⌝ }
         requires { ⌜ workLength (scope .order) (scope .size) ≤ length (now work) ⌝ }
-        requires { ⌜ (place < 2 * scope .order) × (1 ≤ degreeOf (scope .order) (scope .size) (now work) place) ⌝ }
+        requires { ⌜ (place < 2 * scope .order) × (1 ≤ degreeOf (scope .order) (scope .size) (now work) place) × (least ≡ needOf scope place) ⌝ }
         requires { ⌜ (degreeOf (scope .order) (scope .size) (now work) place ≡ needOf scope place → Pushable (scope .order) self place) ⌝ }
         ensures { λ r. ⌜ r ≡ loweredPeel (scope .order) (scope .size) (needOf scope) (now (work .entry)) self place ⌝ }
         ensures { λ _. ⌜ now (work .exit) ≡ loweredTable (scope .order) (scope .size) (needOf scope) (now (work .entry)) self place ⌝ }
@@ -179,14 +218,14 @@ impl Peel {
         let at = degrees_at(scope) + place;
         let degree = work[at];
         work[at] = degree - 1;
-        if wide16(degree) == need(scope, place) {
+        if wide16(degree) == least {
             self.push(work, scope, place)
         } else {
             self
         }
     }
 
-    // Each place of the row of the place that the head has passed loses an edge.
+    // Each place of the row of the place that the head has passed loses an edge. For an empty row, of which there are many, nothing is looked up.
     fn lower_row(self, work: &mut [u16], scope: Scope, place: usize) -> Peel
         requires { ⌜ Small (scope .order) (scope .size) ⌝ }
         requires { ⌜ Dropping (scope .order) (scope .size) (needOf scope) (now work) self place 0 ⌝ }
@@ -197,16 +236,39 @@ impl Peel {
         let rows = 2 * scope.order + 1;
         let end = rows + wide16(work[place + 1]);
         let mut k = rows + wide16(work[place]);
+        if end <= k {
+            return self;
+        }
+        let least = need_across(scope, place);
         let mut peel = self;
         while k < end {
             let other = wide16(work[k]);
-            peel = peel.lower(work, scope, other);
+            peel = peel.lower(work, scope, least, other);
             k += 1;
         }
         peel
     }
 
-    // The place at the head dropped: the head goes past it, and each place of its row is lowered.
+    // The place at the head dropped, but for its row: the head goes past it, and the total falls by its degree, which counts its edges to places
+    // not dropped.
+    pub fn pass_first(self, work: &[u16], scope: Scope) -> Peel
+        requires { ⌜ Small (scope .order) (scope .size) ⌝ }
+        requires { ⌜ (workLength (scope .order) (scope .size) ≤ length (now work)) × (self .head < 2 * scope .order) ⌝ }
+        requires { ⌜ queueOf (scope .order) (scope .size) (now work) (self .head) < 2 * scope .order ⌝ }
+        requires { ⌜ degreeOf (scope .order) (scope .size) (now work) (queueOf (scope .order) (scope .size) (now work) (self .head)) ≤ self .edges ⌝ }
+        ensures { λ r. ⌜ r ≡ past (scope .order) (scope .size) (now (work .entry)) self ⌝ }
+    {
+        let at = queue_at(scope) + self.head;
+        let place = wide16(work[at]);
+        let degree = wide16(work[degrees_at(scope) + place]);
+        Peel {
+            head: self.head + 1,
+            edges: self.edges - degree,
+            ..self
+        }
+    }
+
+    // The place at the head dropped, and each place of its row lowered.
     fn drop_first(self, work: &mut [u16], scope: Scope) -> Peel
         requires { ⌜ Small (scope .order) (scope .size) ⌝ }
         requires { ⌜ self .head < self .tail ⌝ }
@@ -215,13 +277,9 @@ impl Peel {
         ensures { λ r. ⌜ r .head ≡ self .head + 1 ⌝ }
         ensures { λ _. ⌜ Kept (scope .order) (scope .size) (now (work .entry)) (now (work .exit)) ⌝ }
     {
-        let at = queue_at(scope) + self.head;
-        let place = wide16(work[at]);
-        let past = Peel {
-            head: self.head + 1,
-            ..self
-        };
-        past.lower_row(work, scope, place)
+        let first = queue_at(scope) + self.head;
+        let place = wide16(work[first]);
+        self.pass_first(work, scope).lower_row(work, scope, place)
     }
 
     // Whether the place at the head is to be dropped: one waits there, and the queue is to be drained or neither side is empty yet.
@@ -259,7 +317,7 @@ impl Peel {
     // The peel of the whole graph for a scope, run to its end.
     pub fn whole(work: &mut [u16], scope: Scope, drain: bool) -> Peel
         requires { ⌜ Small (scope .order) (scope .size) ⌝ }
-        requires { ⌜ Rows (scope .order) (scope .size) (now work) ⌝ }
+        requires { ⌜ Held (scope .order) (scope .size) (now work) ⌝ }
         ensures { λ r. ⌜ Ended drain scope (now (work .entry)) (now (work .exit)) r ⌝ }
     {
         let free = Scope {

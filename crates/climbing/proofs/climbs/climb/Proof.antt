@@ -20,11 +20,11 @@ abbrev μ-loop : tie.MeasureT-loop
 asked-requires : tie.Need-asked-requires Inv-loop μ-loop
 asked-requires c κs = search needs
 
-whole-requires : tie.Need-whole-requires Inv-loop μ-loop
-whole-requires c κs = let p = c .before .before .before .pre in rw (c .asked .ensures) (p .0, p .1 .0)
+begin-requires : tie.Need-begin-requires Inv-loop μ-loop
+begin-requires c κs = let p = c .before .before .before .pre in rw (c .asked .ensures) (p .0, p .1 .0)
 
 loop-holds : tie.Need-loop-holds Inv-loop μ-loop
-loop-holds c = climb-begins _ _ _ (c .before .before .before .asked .ensures) (c .before .before .whole .ensures)
+loop-holds c = climb-begins _ _ _ (c .before .before .before .asked .ensures) (c .before .before .begin .ensures)
 
 is-empty-requires : tie.Need-is-empty-requires Inv-loop μ-loop
 is-empty-requires c κs = search needs
@@ -86,7 +86,7 @@ returns c =
     let inv = c .before .before .loop .inv in
     let first = c .before .before .before .before .before in
     climb-ends inv (first .before .before .before .before .pre .1 .1) (sym (c .before .is-empty .ensures) ∙ c .if1 .taken)
-    (rw (first .before .asked .ensures) at (first .whole .ensures .kept))
+    (rw (first .before .asked .ensures) at (first .begin .ensures .kept))
 
 pub climb-spec : {M : Type 1} → statement M
 climb-spec =
@@ -95,7 +95,7 @@ climb-spec =
     Inv-loop
     μ-loop
     asked-requires
-    whole-requires
+    begin-requires
     loop-holds
     is-empty-requires
     sub-last

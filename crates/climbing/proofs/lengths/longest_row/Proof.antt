@@ -1,24 +1,27 @@
--- `climbing::lengths::longest_row` meets its contract. The loop's invariant: no row of the places passed is longer than the longest so far. The
--- differences do not wrap, since starts ascend. The measure is the number of places left to pass.
-use Prim.Native.Nat.{ℕ, _-_, _<_, _≤_}
+-- `climbing::lengths::longest_row` meets its contract. The loop's invariant: the longest so far is that of the places passed. The differences do
+-- not wrap, since starts ascend. The measure is the number of places left to pass.
+use Prim.Native.Nat.{_-_, _≤_}
 use mathlib.Core.Logic.{⊎-elim}
-use native.Mathlib.Nat.{le-trans}
+use mathlib.Core.Path.{_≡_}
+use native.Mathlib.Nat.{le-refl}
 use native.Mathlib.Omega.{arith}
-use denote.Ref.{now}
-use borrow.Author.Count.{below-more}
 use borrow.Author.Needs.{needs}
-use Rattle.peeling.specs.Peeling.{rowLength}
+use borrow.Author.Tests.{le-leb, leb-true}
+use lib.Dec.{leb}
+use Rattle.climbing.specs.Climbs.{Longest}
+use Rattle.climbing.proofs.Longest.{longest-more, longest-still}
 use Rattle.climbing.proofs.lengths.longest_row.Statement.{statement}
 use Rattle.climbing.proofs.lengths.longest_row.Tie as tie
 
 abbrev Inv-loop : tie.InvT-loop
-Inv-loop work from to longest₀ place₀ longest place = (p : ℕ) → p < place → from ≤ p → rowLength work p ≤ longest
+Inv-loop work from to longest₀ place₀ longest place = (from ≤ place) × (place ≤ to) × Longest (λ p. leb from p) work place longest
 
 abbrev μ-loop : tie.MeasureT-loop
 μ-loop work from to longest₀ place₀ longest place = to - place
 
 loop-holds : tie.Need-loop-holds Inv-loop μ-loop
-loop-holds c p l h = absurd (omega arith)
+loop-holds c =
+    (le-refl _, c .before .pre .0 .0, record { all = λ p l h. absurd (omega (arith, leb-true _ p h)); reached = λ m. absurd (omega arith) })
 
 add-length : tie.Need-add-length Inv-loop μ-loop
 add-length c = search needs
@@ -44,22 +47,22 @@ add-place c = search needs
 loop-less : tie.Need-loop-less Inv-loop μ-loop
 loop-less c = search needs
 
--- what is kept is at least what was, and at least this row's length
-no-less : (c : tie.Joined1 Inv-loop μ-loop)
-    → let l = c .before .before .before .before in
-    (l .loop .longest ≤ c .if1 .longest) × (rowLength (now (l .before .before .args .work)) (l .loop .place) ≤ c .if1 .longest)
-no-less c = ⊎-elim (λ (t, e). omega (arith, e, t .taken)) (λ (t, e). omega (arith, e, t .left)) (c .if1 .came)
-
 loop-again : tie.Need-loop-again Inv-loop μ-loop
 loop-again c =
-    let (kept, here) = no-less c in
-    below-more _ _ (λ p l h. le-trans (c .before .before .before .before .loop .inv p l h) kept) (λ h. here)
+    let (first, end, o) = c .before .before .before .before .loop .inv in (
+      omega arith,
+      omega arith,
+      ⊎-elim (λ (t, e). rw e (longest-more o (le-leb _ _ first) (t .taken))) (λ (t, e). rw e (longest-still o (t .left))) (c .if1 .came),
+    )
 
 wide16-requires : tie.Need-wide16-requires Inv-loop μ-loop
 wide16-requires c κs = search needs
 
 returns : tie.Need-returns Inv-loop μ-loop
-returns c p l h = omega (arith, c .before .before .loop .inv p (omega arith) l, c .wide16 .ensures .0)
+returns c =
+    let l = c .before .before .loop in
+    let e : l .place ≡ c .before .before .before .before .args .to = omega (arith, l .inv .1) in
+    (rw (c .wide16 .ensures .0, ← e) (l .inv .2), c .wide16 .ensures .1)
 
 pub longest-row-spec : {M : Type 1} → statement M
 longest-row-spec =

@@ -3,7 +3,7 @@ use mathlib.Core.List.{[], _∷_}
 use mathlib.Core.Path.{refl, sym, ap, _∙_}
 use Rattle.network.specs.Calls as call
 use Rattle.network.proofs.Answers.{call-kept}
-use Rattle.cores.proofs.WayIn.{core-entry, entry-refused, entry-ready, entered-rows, entered-groups}
+use Rattle.cores.proofs.WayIn.{core-entry, entry-refused, entry-ready, entered-held, entered-groups}
 use borrow.Author.Needs.{needs}
 use Rattle.cores.proofs.asks.core.Statement.{statement}
 use Rattle.cores.proofs.asks.core.Tie as tie
@@ -27,7 +27,7 @@ core-in-requires : tie.Need-core-in-requires
 core-in-requires c κs =
     let b = c .before .before .before .before .before in
     let r = entry-ready _ _ _ _ _ _ (b .before .before .before .before .before .enter .ensures) _ _ (b .before .entry2 .given .1) .1 in
-    (entered-rows r .0, (entered-rows r .1, (r .sources, r .targets)))
+    (entered-held r .0, (entered-held r .1, (r .sources, r .targets)))
 
 same-length : tie.Need-same-length
 same-length c = search needs

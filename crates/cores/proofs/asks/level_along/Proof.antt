@@ -5,7 +5,7 @@ use native.Mathlib.Omega.{arith}
 use Rattle.network.specs.Calls as call
 use Rattle.network.proofs.Answers.{call-kept}
 use Rattle.climbing.proofs.Levels.{climbed-level}
-use Rattle.cores.proofs.WayIn.{entry-refused, entry-ready, entered-rows, entered-kept}
+use Rattle.cores.proofs.WayIn.{entry-refused, entry-ready, entered-held, entered-kept}
 use borrow.Author.Needs.{needs}
 use Rattle.cores.proofs.asks.level_along.Statement.{statement}
 use Rattle.cores.proofs.asks.level_along.Tie as tie
@@ -23,7 +23,7 @@ climb-requires : tie.Need-climb-requires
 climb-requires c κs =
     let b = c .before in
     let r = entry-ready _ _ _ _ _ _ (b .before .before .before .before .before .enter .ensures) _ _ (b .before .entry2 .given .1) .1 in
-    (entered-rows r .0, (entered-rows r .1, omega arith))
+    (entered-held r .0, (entered-held r .1, omega arith))
 
 same-length : tie.Need-same-length
 same-length c = search needs

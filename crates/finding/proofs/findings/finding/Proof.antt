@@ -1,6 +1,6 @@
 -- `finding` is refused on the way in, or finds in the network that is laid into the work table.
 use mathlib.Core.Path.{sym, _∙_}
-use Rattle.cores.proofs.WayIn.{finding-entry, entry-refused, entry-ready, entered-rows}
+use Rattle.cores.proofs.WayIn.{finding-entry, entry-refused, entry-ready, entered-held}
 use Rattle.finding.proofs.FindingCalls.{finding-refused, finding-done}
 use borrow.Author.Needs.{needs}
 use Rattle.finding.proofs.findings.finding.Statement.{statement}
@@ -19,7 +19,7 @@ find-in-requires : tie.Need-find-in-requires
 find-in-requires c κs =
     let b = c .before .before .before in
     let r = entry-ready _ _ _ _ _ _ (b .before .before .before .before .before .enter .ensures) _ _ (b .before .entry2 .given .1) .1 in
-    (entered-rows r .0, (entered-rows r .1, (r .sources, r .targets)))
+    (entered-held r .0, (entered-held r .1, (r .sources, r .targets)))
 
 same-length : tie.Need-same-length
 same-length c = search needs

@@ -1,7 +1,7 @@
 -- `finding::searches::find_in` meets its contract. The climb of both needs from 1 comes to the equal level, the search up to it to the best
 -- pair, and the core of that pair is the finding of every graph of the table, whose rows stay as they were throughout.
 use borrow.Author.Needs.{needs}
-use Rattle.peeling.proofs.Kept.{rows-kept}
+use Rattle.peeling.proofs.Totals.{held-kept}
 use Rattle.finding.proofs.Rings.{equal-small, ring-found}
 use Rattle.finding.proofs.searches.find_in.Statement.{statement}
 use Rattle.finding.proofs.searches.find_in.Tie as tie
@@ -13,14 +13,14 @@ search-requires : tie.Need-search-requires
 search-requires c κs =
     let e = c .before .before .before in
     let p = e .before .before .before .before .before .pre in
-    (p .0, (rows-kept (p .1 .0) (e .climb .ensures .kept), equal-small (e .climb .ensures)))
+    (p .0, (held-kept (p .1 .0) (e .climb .ensures .kept), equal-small (e .climb .ensures)))
 
 core-in-requires : tie.Need-core-in-requires
 core-in-requires c κs =
     let h = c .before .before .before .before .before in
     let e = h .before .before .before .before in
     let p = e .before .before .before .before .before .pre in
-    (p .0, (rows-kept (rows-kept (p .1 .0) (e .climb .ensures .kept)) (h .search .ensures .kept), p .1 .1))
+    (p .0, (held-kept (held-kept (p .1 .0) (e .climb .ensures .kept)) (h .search .ensures .kept), p .1 .1))
 
 same-length : tie.Need-same-length
 same-length c = search needs

@@ -1,8 +1,10 @@
 -- `finding::searches::longest_of` meets its contract: with the sources' need fixed the targets rise, the places from n on, and with the targets'
 -- the sources, the places below n.
+use mathlib.Core.Path.{sym, _∙_}
 use native.Mathlib.Omega.{arith}
-use borrow.Author.Tests.{leb-true, ltb-true}
+use borrow.Author.Tests.{le-leb, lt-ltb, le-ltb}
 use borrow.Author.Needs.{needs}
+use Rattle.climbing.proofs.Longest.{longest-skips}
 use Rattle.finding.proofs.searches.longest_of.Statement.{statement}
 use Rattle.finding.proofs.searches.longest_of.Tie as tie
 
@@ -19,13 +21,18 @@ enum-told-2 : tie.Need-enum-told-2
 enum-told-2 c = search needs
 
 longest-row-requires-2 : tie.Need-longest-row-requires-2
-longest-row-requires-2 c κs = let p = c .before .before .before .pre in ((omega arith, omega arith), λ q l. p .1 q (omega arith))
+longest-row-requires-2 c κs =
+    let p = c .before .before .before .pre in
+    ((omega arith, omega arith, omega arith), λ q l. p .1 q (omega arith))
 
 returns : tie.Need-returns
-returns c = rw (c .before .enum-told .given .1) record { all = λ p l h. c .longest-row .ensures p (leb-true _ p h) l }
+returns c = rw (c .before .enum-told .given .1) (c .longest-row .ensures)
 
 returns-2 : tie.Need-returns-2
-returns-2 c = rw (c .before .enum-told2 .given .1) record { all = λ p l h. c .longest-row2 .ensures p (omega arith) (ltb-true p _ h) }
+returns-2 c =
+    let (o, f) = c .longest-row2 .ensures in
+    rw (c .before .enum-told2 .given .1)
+    (longest-skips (omega arith) (λ p l. le-leb 0 p (omega arith) ∙ sym (lt-ltb p _ l)) (λ p l h. le-ltb p _ l) o, f)
 
 pub longest-of-spec : {M : Type 1} → statement M
 longest-of-spec =

@@ -7,10 +7,11 @@ use Prim.Native.Nat.{_+_, _-_}
 use native.Mathlib.Omega.{arith}
 use denote.Ref.{now}
 use borrow.Author.Needs.{needs}
-use Rattle.peeling.specs.Peeling.{Rows}
-use Rattle.peeling.proofs.Kept.{rows-kept}
-use Rattle.climbing.proofs.Unreached.{longest-kept}
-use Rattle.finding.proofs.Turns.{sidesLeft, Searching, kept-back, search-begins, search-from, search-more, search-turns, search-ends}
+use Rattle.peeling.specs.Peeling.{Held}
+use Rattle.peeling.proofs.Kept.{kept-back}
+use Rattle.peeling.proofs.Totals.{held-rows, held-kept}
+use Rattle.climbing.proofs.Longest.{longest-kept}
+use Rattle.finding.proofs.Turns.{sidesLeft, Searching, search-begins, search-from, search-more, search-turns, search-ends}
 use Rattle.finding.proofs.searches.search.Statement.{statement}
 use Rattle.finding.proofs.searches.search.Tie as tie
 
@@ -29,12 +30,12 @@ abbrev μ-search : tie.MeasureT-search
 search-holds : tie.Need-search-holds Inv-loop μ-loop Inv-search μ-search
 search-holds c = search-begins (now (c .before .args .work)) (c .before .pre .1 .1)
 
--- the rows are kept up to the turn of a side
-rows-at : (c : tie.At-search Inv-loop μ-loop Inv-search μ-search) → let a = c .before .before .args in Rows (a .order) (a .size) (c .search .work)
-rows-at c = rows-kept (c .before .before .pre .1 .0) (c .search .inv .kept)
+-- the table holds its graph up to the turn of a side
+held-at : (c : tie.At-search Inv-loop μ-loop Inv-search μ-search) → let a = c .before .before .args in Held (a .order) (a .size) (c .search .work)
+held-at c = held-kept (c .before .before .pre .1 .0) (c .search .inv .kept)
 
 longest-of-requires : tie.Need-longest-of-requires Inv-loop μ-loop Inv-search μ-search
-longest-of-requires c κs = let r = rows-at (c .before) in ((c .before .before .before .pre .0 .order, omega (arith, r .long)), r .ascending)
+longest-of-requires c κs = let r = held-rows (held-at (c .before)) in ((c .before .before .before .pre .0 .order, omega (arith, r .long)), r .ascending)
 
 loop-holds : tie.Need-loop-holds Inv-loop μ-loop Inv-search μ-search
 loop-holds c = let s = c .before .before .search .inv in search-from (kept-back (s .kept)) s
@@ -51,7 +52,9 @@ try-one-requires c κs =
     let s = l .before .before .before in
     let p = s .before .before .pre in
     let inv = l .loop .inv in
-    (p .0, (rows-kept (rows-at s) (inv .kept), (longest-kept (rows-at s) (l .before .longest-of .ensures) (inv .kept), ((inv .positive, omega arith), inv .in-range (omega (arith, inv .positive))))))
+    let (longest, small) = l .before .longest-of .ensures in
+    let range = inv .in-range (omega (arith, inv .positive)) in
+    (p .0, (held-kept (held-at s) (inv .kept), (longest-kept (held-rows (held-at s)) (inv .kept) longest, (small, ((inv .positive, omega arith), range)))))
 
 add-fixed : tie.Need-add-fixed Inv-loop μ-loop Inv-search μ-search
 add-fixed c = search needs

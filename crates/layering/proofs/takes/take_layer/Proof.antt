@@ -45,7 +45,7 @@ find-in-requires c κs =
     let p = start o .pre in
     let h = p .0 .sound .header in (
       record { order = omega (arith, o .order-of .ensures, h); size = omega (arith, p .1 .1 .1 .0, h) },
-      (rw (tabled o .order) at (tabled o .indexed .rows), (omega (arith, o .order-of .ensures, h), omega (arith, o .order-of .ensures, h))),
+      (record { graph = _; tabled = tabled o }, (omega (arith, o .order-of .ensures, h), omega (arith, o .order-of .ensures, h))),
     )
 
 slice-aggregate-take-edges : tie.Need-slice-aggregate-take-edges

@@ -21,8 +21,8 @@ is-degree c =
     ap (λ (k : ℕ). getD (now (g .work)) (k + g .place) 0) (sym (c .before .before .degrees-at .ensures)) ∙ sym (c .wide16 .ensures .0)
 
 -- where the test holds it is what the place needs
-is-need : (c : tie.Then1) → let start = c .before .before .before .before .before .before in degree start ≡ needOf (start .args .scope) (start .args .place)
-is-need c = omega (arith, is-degree (c .before .before), c .if1 .taken, c .before .need .ensures)
+is-need : (c : tie.Then1) → let start = c .before .before .before .before .before in degree start ≡ needOf (start .args .scope) (start .args .place)
+is-need c = omega (arith, is-degree (c .before), c .if1 .taken, c .before .before .before .before .before .pre .1 .1 .0 .2)
 
 degrees-at-requires : tie.Need-degrees-at-requires
 degrees-at-requires c κs = search needs
@@ -50,12 +50,9 @@ slice-write-work c = search needs
 wide16-requires : tie.Need-wide16-requires
 wide16-requires c κs = search needs
 
-need-requires : tie.Need-need-requires
-need-requires c κs = search needs
-
 push-requires : tie.Need-push-requires
 push-requires c κs =
-    let start = c .before .before .before .before .before .before .before .pre in
+    let start = c .before .before .before .before .before .before .pre in
     (start .0, (simp length-set (start .1 .0), (start .1 .1 .0 .0, start .1 .1 .1 (is-need (c .before)))))
 
 same-length : tie.Need-same-length
@@ -65,15 +62,15 @@ returns : tie.Need-returns
 returns c =
     let e = eq-eqb _ _ (is-need (c .before .before .before .before)) in
     let after = c .before .before .push .ensures in
-    (simp e (after .0), simp e (simp (c .before .before .before .before .before .before .before .before .degrees-at .ensures) at (after .1)))
+    (simp e (after .0), simp e (simp (c .before .before .before .before .before .before .before .degrees-at .ensures) at (after .1)))
 
 same-length-2 : tie.Need-same-length-2
 same-length-2 c = search needs
 
 returns-2 : tie.Need-returns-2
 returns-2 c =
-    let e = ne-eqb _ _ (λ q. c .if1 .left (sym (is-degree (c .before .before)) ∙ q ∙ sym (c .before .need .ensures))) in
-    (simp e, simp (e, c .before .before .before .before .degrees-at .ensures))
+    let e = ne-eqb _ _ (λ q. c .if1 .left (sym (is-degree (c .before)) ∙ q ∙ sym (c .before .before .before .before .before .pre .1 .1 .0 .2))) in
+    (simp e, simp (e, c .before .before .before .degrees-at .ensures))
 
 pub lower-spec : {M : Type 1} → statement M
 lower-spec =
@@ -87,7 +84,6 @@ lower-spec =
     mul-work
     slice-write-work
     wide16-requires
-    need-requires
     push-requires
     same-length
     returns

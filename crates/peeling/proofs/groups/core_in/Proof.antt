@@ -21,8 +21,8 @@ add-write-group c = search needs
 write-group-requires-2 : tie.Need-write-group-requires-2
 write-group-requires-2 c κs = search needs
 
-edges-left-requires : tie.Need-edges-left-requires
-edges-left-requires c κs = search needs
+cast-t20 : tie.Need-cast-t20
+cast-t20 c = search needs
 
 same-length : tie.Need-same-length
 same-length c = search needs
@@ -35,13 +35,13 @@ same-length-3 c = search needs
 
 returns : tie.Need-returns
 returns c =
-    let second = c .before .before .before .before in
+    let second = c .before .before .before in
     let first = second .before .before .before .before .before in
     let place = first .before .before .before in
     let peel = place .before .before .before in
     let a = peel .before .before .before .before .before .args in
     core-in (now (a .s)) (now (a .t)) (peel .whole .ensures) (place .degrees-at .ensures) (first .write-group .ensures) (second .write-group2 .ensures)
-    refl refl (c .edges-left .ensures)
+    refl refl refl
 
 pub core-in-spec : {M : Type 1} → statement M
 core-in-spec =
@@ -52,7 +52,7 @@ core-in-spec =
     write-group-requires
     add-write-group
     write-group-requires-2
-    edges-left-requires
+    cast-t20
     same-length
     same-length-2
     same-length-3
