@@ -2,6 +2,7 @@
 #include "cogsplice.h"
 
 #include <stdio.h>
+#include <stdlib.h>
 #include <string.h>
 
 /* 6 members and the links 0-3, 0-4, 1-3, 1-4, 2-3, 2-4, 4-5, 5-5. */
@@ -13,10 +14,14 @@ static const uint8_t network_w[] = {
 
 static uint8_t input[COGSPLICE_FILE(COGSPLICE_LINKS) + 1];
 
-/* Network W, or standard input if it is named by "-". */
+/* Network W, or standard input if it is named by "-". An input that cannot be read is no empty file. */
 static const uint8_t *network_file(int argc, char **argv, size_t *length) {
     if (argc > 1 && strcmp(argv[1], "-") == 0) {
         *length = fread(input, 1, sizeof input, stdin);
+        if (ferror(stdin)) {
+            fputs("standard input cannot be read\n", stderr);
+            exit(1);
+        }
         return input;
     }
     *length = sizeof network_w;

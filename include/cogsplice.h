@@ -10,7 +10,8 @@
  *
  * A network file is bytes: the mark "VCH", then numbers of 16 bits, low byte first: the version 1, n (members, at most
  * COGSPLICE_MEMBERS), m (links, at most COGSPLICE_LINKS), and for each link the voucher and the vouched member. Members are
- * numbered from 0 to n - 1, links from 0. A link may join a member to itself; no link may stand twice.
+ * numbered from 0 to n - 1, links from 0. A link may join a member to itself; no link may stand twice. Zero bytes count as the file
+ * without members and links: it is for the caller to tell an empty input from one that cannot be read.
  *
  * A group is a table of bytes, one for each member: 1 in, 0 out. S is the group of vouchers, T that of the vouched. E(S,T) is
  * the number of links whose voucher is in S and whose vouched member is in T.
@@ -43,7 +44,7 @@ extern "C" {
 
 enum {
     COGSPLICE_ACCEPTED = 0,
-    COGSPLICE_REFUSED_SHORT = 1,    /* the file is shorter than 9 bytes */
+    COGSPLICE_REFUSED_SHORT = 1,    /* the file has 1 to 8 bytes */
     COGSPLICE_REFUSED_MARK = 2,     /* its mark is not VCH */
     COGSPLICE_REFUSED_VERSION = 3,  /* its version is not 1 */
     COGSPLICE_REFUSED_MEMBERS = 4,  /* n is above COGSPLICE_MEMBERS */
@@ -55,7 +56,7 @@ enum {
     COGSPLICE_REFUSED_MEMBER = 10,  /* row: the member is not below n */
     COGSPLICE_REFUSED_GROUP = 11,   /* count: a byte among the first n of a group is neither 0 nor 1 */
     COGSPLICE_REFUSED_ZERO = 12,    /* level, level across: asked for 0 */
-    COGSPLICE_REFUSED_LINKLESS = 13,/* finding, layers: the file has no link */
+    /* 13 is retired: it is never given again, nor used for something else */
     COGSPLICE_REFUSED_ROW = 14      /* row: the member's start is above the next start, or that is above the length of the rows table */
 };
 
@@ -174,8 +175,8 @@ struct cogsplice_level_numbers cogsplice_equal_level(
     uint16_t *work, size_t work_length);
 
 /* Writes the finding to s and t: the non-empty [x,y]-core, x and y at least 1, with the greatest x * y; among equal products the
- * smallest x. No pair of groups is more than twice as dense, where the density of S and T is E(S,T) / sqrt(|S| * |T|). Refusals 1
- * to 8, 9, 13. */
+ * smallest x. No pair of groups is more than twice as dense, where the density of S and T is E(S,T) / sqrt(|S| * |T|). Where the
+ * file has no link, the month is quiet: all numbers are 0 and both groups are empty. x * y is 0 exactly then. Refusals 1 to 8, 9. */
 struct cogsplice_finding_numbers cogsplice_finding(
     const uint8_t *file, size_t file_length,
     uint8_t *s, size_t s_length,
@@ -186,7 +187,8 @@ struct cogsplice_finding_numbers cogsplice_finding(
  * layer of each link, counted from 1, into the first COGSPLICE_LAYERS(m) entries of layers, in the order of the file. Each link has
  * one layer from 1 to K: layer l is, of the links still in at its start, those between the two groups of their finding. The layers' E
  * add up to m, and x * y never rises from a layer to the next. In each layer the finding's bound holds over the links still in at its
- * start: for all non-empty S and T, E(S,T) squared is at most 4 * x * y * |S| * |T|. Refusals 1 to 8, 9, 13. */
+ * start: for all non-empty S and T, E(S,T) squared is at most 4 * x * y * |S| * |T|. Where the file has no link, K is 0. Refusals 1 to
+ * 8, 9. */
 struct cogsplice_layers_numbers cogsplice_layers(
     const uint8_t *file, size_t file_length,
     uint16_t *layers, size_t layers_length,

@@ -29,19 +29,6 @@ static void expect(const char *call, unsigned refusal, unsigned given) {
 
 #define EXPECT(number, call) expect(#call, number, (call).refusal)
 
-static void no_file(void) {
-    EXPECT(1, cogsplice_check(NONE));
-    EXPECT(1, cogsplice_count(NONE, ALL(s), ALL(t)));
-    EXPECT(1, cogsplice_write(NONE, ALL(out)));
-    EXPECT(1, cogsplice_index(NONE, ALL(starts), ALL(rows), ALL(other_starts), ALL(other_rows)));
-    EXPECT(1, cogsplice_core(NONE, 1, 1, ALL(s), ALL(t), ALL(work)));
-    EXPECT(1, cogsplice_level(NONE, 1, ALL(work)));
-    EXPECT(1, cogsplice_level_across(NONE, 1, ALL(work)));
-    EXPECT(1, cogsplice_equal_level(NONE, ALL(work)));
-    EXPECT(1, cogsplice_finding(NONE, ALL(s), ALL(t), ALL(work)));
-    EXPECT(1, cogsplice_layers(NONE, ALL(layers), ALL(work)));
-}
-
 static void no_table(void) {
     EXPECT(9, cogsplice_count(W, NONE, ALL(t)));
     EXPECT(9, cogsplice_count(W, ALL(s), NONE));
@@ -64,12 +51,30 @@ static void no_table(void) {
 }
 
 /* Of a network without members and links, groups, rows and layers of no entries are long enough. */
-static void enough(void) {
-    EXPECT(0, cogsplice_count(NOBODY, NONE, NONE));
-    EXPECT(0, cogsplice_index(NOBODY, ALL(starts), NONE, ALL(other_starts), NONE));
-    EXPECT(0, cogsplice_core(NOBODY, 1, 1, NONE, NONE, ALL(work)));
-    EXPECT(13, cogsplice_finding(NOBODY, NONE, NONE, ALL(work)));
-    EXPECT(13, cogsplice_layers(NOBODY, NONE, ALL(work)));
+static void enough(const uint8_t *file, size_t length) {
+    EXPECT(0, cogsplice_check(file, length));
+    EXPECT(0, cogsplice_count(file, length, NONE, NONE));
+    EXPECT(0, cogsplice_write(file, length, ALL(out)));
+    EXPECT(0, cogsplice_index(file, length, ALL(starts), NONE, ALL(other_starts), NONE));
+    EXPECT(0, cogsplice_core(file, length, 1, 1, NONE, NONE, ALL(work)));
+    EXPECT(0, cogsplice_level(file, length, 1, ALL(work)));
+    EXPECT(0, cogsplice_level_across(file, length, 1, ALL(work)));
+    EXPECT(0, cogsplice_equal_level(file, length, ALL(work)));
+    EXPECT(0, cogsplice_finding(file, length, NONE, NONE, ALL(work)));
+    EXPECT(0, cogsplice_layers(file, length, NONE, ALL(work)));
+}
+
+/* Outputs, starts and work tables of no entries are too short for every network. */
+static void not_enough(const uint8_t *file, size_t length) {
+    EXPECT(9, cogsplice_write(file, length, NONE));
+    EXPECT(9, cogsplice_index(file, length, NONE, NONE, ALL(other_starts), NONE));
+    EXPECT(9, cogsplice_index(file, length, ALL(starts), NONE, NONE, NONE));
+    EXPECT(9, cogsplice_core(file, length, 1, 1, NONE, NONE, NONE));
+    EXPECT(9, cogsplice_level(file, length, 1, NONE));
+    EXPECT(9, cogsplice_level_across(file, length, 1, NONE));
+    EXPECT(9, cogsplice_equal_level(file, length, NONE));
+    EXPECT(9, cogsplice_finding(file, length, NONE, NONE, NONE));
+    EXPECT(9, cogsplice_layers(file, length, NONE, NONE));
 }
 
 static void row(unsigned refusal, bool side, const uint16_t *table, size_t length) {
@@ -93,9 +98,12 @@ static void rows_of(bool side) {
 }
 
 int main(void) {
-    no_file();
     no_table();
-    enough();
+    enough(NOBODY);
+    not_enough(NOBODY);
+    /* No bytes count as that network's file. */
+    enough(NONE);
+    not_enough(NONE);
     rows_of(COGSPLICE_VOUCHER);
     rows_of(COGSPLICE_VOUCHED);
     return faults != 0;

@@ -40,7 +40,11 @@ impl Measured {
 pub fn measure(input: Input) -> Measured {
     let mut library = Library::new(&input);
     let mut plain = PlainRust::new(&input);
-    compare(&mut library, &mut plain, &input);
+    let quiet = [&input.file[..7], &[0, 0]].concat();
+    // The whole file first: after it no entry of the tables is as it was lent.
+    for file in [&input.file[..], &quiet, &[]] {
+        compare(&mut library, &mut plain, file, &input);
+    }
     compare_refusals(&mut library, &mut plain, &input);
     let [_, _, layers, ..] = plain.call(Call::Layers, &input.file, &input);
     let times = Call::ALL.map(|call| time(&mut library, &mut plain, call, &input));
@@ -51,16 +55,16 @@ pub fn measure(input: Input) -> Measured {
     }
 }
 
-/// Every call on both sides: the same answer, and in the end the same tables.
-fn compare(library: &mut Library, plain: &mut PlainRust, input: &Input) {
+/// Every call on both sides: the same answer, and in the end the same tables. The file is the input's, that without links, or no bytes.
+fn compare(library: &mut Library, plain: &mut PlainRust, file: &[u8], input: &Input) {
     // The core and the finding write the same groups: the tables are compared after each of the two.
     for last in [Call::Core, Call::Finding] {
         let others = Call::ALL.into_iter().filter(|&call| call != last);
         for call in others.chain([last]) {
-            let told = library.call(call, &input.file, input);
+            let told = library.call(call, file, input);
             let (name, network) = (call.name(), &input.name);
             assert_eq!(told[0], 0, "{name} refuses {network}");
-            let plain_told = plain.call(call, &input.file, input);
+            let plain_told = plain.call(call, file, input);
             assert_eq!(told, plain_told, "{name} of {network}");
         }
         let same = library.tables() == plain.tables();

@@ -5,7 +5,7 @@ mod network;
 mod peel;
 
 use chunks::chunks_mut;
-use network::{fill_starts, next_place, source, target, Link, Network, Sorter, HEADER_LENGTH};
+use network::{counted, fill_starts, next_place, source, target, Network, Sorter, HEADER_LENGTH};
 use peel::{Need, Peel, Rise};
 
 /// A refusal's number, and the link's number for the refusals that name one.
@@ -28,14 +28,6 @@ impl Refusal {
     fn of_tables(tables: &[(usize, usize)]) -> Result<(), Self> {
         if tables.iter().any(|&(length, needed)| length < needed) {
             return Err(Self::of(9));
-        }
-        Ok(())
-    }
-
-    /// Refusal 13 unless there is a link.
-    fn of_no_link(links: &[Link]) -> Result<(), Self> {
-        if links.is_empty() {
-            return Err(Self::of(13));
         }
         Ok(())
     }
@@ -81,6 +73,7 @@ impl Plain {
 
     /// Writes the file with its links in order and returns m.
     pub fn write(&mut self, file: &[u8], out: &mut [u8]) -> Result<[usize; 1], Refusal> {
+        let file = counted(file);
         let network = self.sorter.accept(file)?;
         Refusal::of_tables(&[(out.len(), file.len())])?;
         let (header, links) = out[..file.len()].split_at_mut(HEADER_LENGTH);
@@ -126,7 +119,7 @@ impl Plain {
         Ok(self.peel.core(Need { x, y }, s, t))
     }
 
-    /// Writes the finding and returns x, y, the equal level, E, |S| and |T|.
+    /// Writes the finding and returns x, y, the equal level, E, |S| and |T|. Without links all are 0 and both groups empty.
     pub fn finding(
         &mut self,
         file: &[u8],
@@ -135,7 +128,11 @@ impl Plain {
     ) -> Result<[usize; 6], Refusal> {
         let Network { n, links, .. } = self.sorter.accept(file)?;
         Refusal::of_tables(&[(s.len(), n), (t.len(), n)])?;
-        Refusal::of_no_link(links)?;
+        if links.is_empty() {
+            s[..n].fill(0);
+            t[..n].fill(0);
+            return Ok([0; 6]);
+        }
         self.peel.load(n, links.iter());
         let (equal, best) = search(&mut self.peel);
         let [edges, sources, targets] = self.peel.core(best, s, t);
@@ -148,7 +145,6 @@ impl Plain {
     pub fn layers(&mut self, file: &[u8], layers: &mut [u16]) -> Result<[usize; 1], Refusal> {
         let Network { n, links, .. } = self.sorter.accept(file)?;
         Refusal::of_tables(&[(layers.len(), links.len())])?;
-        Refusal::of_no_link(links)?;
         let Self { peel, left, .. } = self;
         left.clear();
         left.extend(0..links.len() as u16);

@@ -1,4 +1,4 @@
--- A file whose edges ascend as they stand is written byte for byte as it is.
+-- A file whose edges ascend as they stand is written byte for byte as it is, and zero bytes as the header of a file with no vertex and no edge.
 use Prim.Native.Nat.{ℕ, zero, suc, _+_, _/_, _%_, _<_, _≤_}
 use mathlib.Core.Bool.{true, _&&_}
 use mathlib.Core.List.{List, [], _∷_, _++_, append-assoc, append-nil}
@@ -15,7 +15,7 @@ use Rattle.graph.proofs.Ranges.{flat-ext}
 use Rattle.graph.proofs.Ascending.{ascending-edgeAt}
 use Rattle.network.specs.File.{u16At, linkAt, graphOf, mark, marked}
 use Rattle.network.specs.Bytes.{u16, header, edgeBytes, edgesBytes, written}
-use Rattle.network.specs.Accepted.{Header}
+use Rattle.network.specs.Accepted.{Headed}
 use Rattle.graph.specs.Order.{Ascending}
 
 -- the mark, before what comes after it
@@ -57,7 +57,7 @@ module _ (f : List ℕ) (bytes : (i : ℕ) → getD f i 0 < 256) where
       ∙ edges-front m (omega arith)
 
   -- and the header
-  header-front : Header f → header (graphOf f .order) (graphOf f .size) ++ drop 9 f ≡ f
+  header-front : Headed f → header (graphOf f .order) (graphOf f .size) ++ drop 9 f ≡ f
   header-front a =
       ap (λ t. 0x56 ∷ 0x43 ∷ 0x48 ∷ t)
       (ap (λ v. u16 v ++ u16 (u16At f 5) ++ u16 (u16At f 7) ++ drop 9 f) (sym (a .version))
@@ -66,7 +66,7 @@ module _ (f : List ℕ) (bytes : (i : ℕ) → getD f i 0 < 256) where
       ∙ mark-front f (a .long) (a .is-marked)
 
   -- the edges in ascending order are all the bytes after the header
-  links-itself : Header f → Ascending (graphOf f) → edgesBytes (graphOf f) ≡ drop 9 f
+  links-itself : Headed f → Ascending (graphOf f) → edgesBytes (graphOf f) ≡ drop 9 f
   links-itself a next =
       let g = graphOf f in
       let last : drop (linkAt (g .size)) f ≡ [] = ap (λ k. drop k f) (sym (a .exact)) ∙ drop-length f in
@@ -76,5 +76,11 @@ module _ (f : List ℕ) (bytes : (i : ℕ) → getD f i 0 < 256) where
       ∙ edges-front (g .size) (omega (arith, a .exact))
 
   -- a file that ascends is the written one
-  pub written-itself : Header f → Ascending (graphOf f) → written (graphOf f) ≡ f
+  pub written-itself : Headed f → Ascending (graphOf f) → written (graphOf f) ≡ f
   written-itself a next = ap (λ t. header (graphOf f .order) (graphOf f .size) ++ t) (links-itself a next) ∙ header-front a
+
+-- zero bytes are written as a header alone
+pub written-quiet : (f : List ℕ) → length f ≡ 0 → written (graphOf f) ≡ header 0 0
+unfolding flat
+written-quiet [] e = refl
+written-quiet (b ∷ r) e = absurd (omega arith)

@@ -28,10 +28,13 @@ ghost use Rattle.network.specs.Accepted.{Header, Sound, Holds};
 ghost use Rattle.calls.specs.Headers.{HeaderNumber};
 ghost use Rattle.calls.specs.Calls.{CheckCall};
 
-// The number that the first 9 bytes and the length give, 1 to 6, or 0.
+// The number that the first 9 bytes and the length give, 1 to 6, or 0. Zero bytes count as a file (02, wish 3).
 fn header_number(file: &[u8]) -> u16
     ensures { λ r. ⌜ HeaderNumber (now (file .entry)) r ⌝ }
 {
+    if file.len() == 0 {
+        return 0;
+    }
     if file.len() < 9 {
         return 1;
     }

@@ -15,11 +15,11 @@ ghost use mathlib.Core.Path.{_≡_};
 ghost use Prim.Native.Nat.{_≤_};
 ghost use lib.ListN.{length};
 ghost use lib.Seq.{sets};
-ghost use Rattle.graph.specs.Order.{precedes};
+ghost use Rattle.graph.specs.Order.{precedes, Ascending};
 ghost use Rattle.graph.specs.Sorting.{Sorted};
 ghost use Rattle.network.specs.File.{linkAt, graphOf};
 ghost use Rattle.network.specs.Bytes.{edgesBytes, written};
-ghost use Rattle.network.specs.Accepted.{Sound};
+ghost use Rattle.network.specs.Accepted.{Header, Sound};
 ghost use Rattle.calls.specs.Calls.{WriteCall};
 
 // Every edge, in the order given.
@@ -59,7 +59,21 @@ fn copy(file: &[u8], out: &mut [u8])
     }
 }
 
-// 01: the writer. A file whose edges ascend is the written file itself; any other is written by the order that the check left.
+// A file whose edges ascend is the written file itself; for zero bytes that is the header alone.
+fn put_itself(file: &[u8], out: &mut [u8])
+    requires { ⌜ Header (now file) ⌝ }
+    requires { ⌜ Ascending (graphOf (now file)) ⌝ }
+    requires { ⌜ linkAt (graphOf (now file) .size) ≤ length (now out) ⌝ }
+    ensures { λ _. ⌜ now (out .exit) ≡ sets (now (out .entry)) 0 (written (graphOf (now (file .entry)))) ⌝ }
+{
+    if file.len() == 0 {
+        put_header(out, 0, 0);
+        return;
+    }
+    copy(file, out);
+}
+
+// 01: the writer. Edges that ascend are copied as they stand; any others are written by the order that the check left.
 pub fn write(file: &[u8], out: &mut [u8]) -> WriteAnswer
     ensures { λ r. ⌜ WriteCall (now (file .entry)) (now (out .entry)) (now (out .exit)) r ⌝ }
 {
@@ -74,7 +88,7 @@ pub fn write(file: &[u8], out: &mut [u8]) -> WriteAnswer
         return WriteAnswer::Refused(Refusal::plain(9));
     }
     if state.ascending {
-        copy(file, out);
+        put_itself(file, out);
         return WriteAnswer::Written { size };
     }
     put_file(file, &sorted, out);

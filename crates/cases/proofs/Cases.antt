@@ -1,12 +1,11 @@
--- P1 to P9 and the limits of a file: every case of the table holds.
+-- P1 to P9, zero bytes and the limits of a file: every case of the table holds.
 use mathlib.Core.Path.{refl}
 use Rattle.graph.specs.Range.{sum, first, flat}
 use Rattle.network.specs.File.{fileRefusal}
-use Rattle.network.specs.Refusals.{coreRefusal, findingRefusal}
 use Rattle.cases.specs.Cases.{cases, Hold}
 use Rattle.cases.proofs.Compute.{all-sound}
 
 -- by computing the test of the table
 pub cases-hold : Hold cases
-unfolding cases sum first flat fileRefusal coreRefusal findingRefusal
+unfolding cases sum first flat fileRefusal
 cases-hold = all-sound cases refl

@@ -3,7 +3,7 @@
 use Prim.Native.Nat.{ℕ, zero, suc, _+_, _*_, _<_, _≤_}
 use mathlib.Core.Bool.{Bool, true, false, not, _&&_, _||_, false≢true}
 use mathlib.Core.List.{List, [], _∷_}
-use mathlib.Core.Logic.{⊎-elim}
+use mathlib.Core.Logic.{_⊎_, inl, inr, ⊎-elim}
 use mathlib.Core.Path.{_≡_, refl, sym, _∙_}
 use native.Mathlib.Nat.{le-refl, le-trans, eq-or-lt-of-le}
 use native.Mathlib.Omega.{arith}
@@ -13,6 +13,7 @@ use lib.ListN.{length, getD}
 use Rattle.graph.specs.Graph.{Graph, Group, card, edges}
 use Rattle.graph.specs.Shapes.{Closed, total}
 use Rattle.graph.specs.Core.{Inside, Dense, Core, Nonempty, Greatest, Before, Finding}
+use Rattle.graph.specs.Quiet.{everyone, Outcome, ring, quiet}
 use Rattle.graph.specs.Layers.{stillIn, joins, Layer, Layering}
 use Rattle.graph.proofs.Tests.{and-left, and-right}
 use Rattle.graph.proofs.Sums.{below-suc}
@@ -24,13 +25,17 @@ use Rattle.graph.proofs.Masks.{closed-weighing}
 use Rattle.graph.proofs.Layers.{layer-make, layer-product}
 use Rattle.network.specs.declared.Refusal.{Refusal}
 use Rattle.network.specs.File.{graphOf, none, fileRefusal}
-use Rattle.network.specs.Refusals.{workLength, findingRefusal}
-use Rattle.cases.specs.Cases.{members, Ring, Counts, Claim, core, level, across, finding, layers, gives, findingGives, Rings, Says, Case, Hold}
+use Rattle.cases.specs.Cases.{members, Ring, Counts, Claim, core, level, across, finding, layers, has, gives, Rings, Says, Case, Hold}
 use Rattle.cases.proofs.Sweep.{withOut, withIn, sourcesLeft, targetsLeft, covers-sweep}
 
 -- two tests that hold together each hold
 both : (a b : Bool) → (a && b) ≡ true → (a ≡ true) × (b ≡ true)
 both a b h = (and-left a b h, and-right a b h)
+
+-- of two tests of which one has to hold one does
+either : (a : Bool) {b : Bool} → (a || b) ≡ true → (a ≡ true) ⊎ (b ≡ true)
+either true h = inl refl
+either false h = inr h
 
 -- the second test holds where the first does
 abbrev pub implies : Bool → Bool → Bool
@@ -183,6 +188,27 @@ finding-sound {g} k x y S T h =
       before = first-sound k x y f;
     }
 
+-- there is no link, x and y are 0, and S and T are empty
+abbrev pub isQuiet : Graph → ℕ → ℕ → Group → Group → Bool
+isQuiet g x y S T = eqb (edges g everyone everyone) 0 && ((eqb x 0 && eqb y 0) && (eqb (card g S) 0 && eqb (card g T) 0))
+
+-- by the definition
+quiet-sound : (g : Graph) (x y : ℕ) (S T : Group) → isQuiet g x y S T ≡ true → Outcome g x y S T
+quiet-sound g x y S T h =
+    let (e, r) = both (eqb (edges g everyone everyone) 0) _ h in
+    let (p, q) = both (eqb x 0 && eqb y 0) _ r in
+    let (i, j) = both (eqb x 0) _ p in
+    let (a, b) = both (eqb (card g S) 0) _ q in
+    quiet (eqb-true _ _ e) (record { x-zero = eqb-true _ _ i; y-zero = eqb-true _ _ j; no-source = eqb-true _ _ a; no-target = eqb-true _ _ b })
+
+-- (S,T) is the finding, for [x,y], or nothing is found
+abbrev pub isOutcome : Graph → ℕ → ℕ → Group → Group → Bool
+isOutcome g x y S T = isFinding g x y S T || isQuiet g x y S T
+
+-- by the definition
+outcome-sound : {g : Graph} → Closed g → (x y : ℕ) (S T : Group) → isOutcome g x y S T ≡ true → Outcome g x y S T
+outcome-sound {g} k x y S T h = ⊎-elim (λ p. ring (finding-sound k x y S T p)) (quiet-sound g x y S T) (either (isFinding g x y S T) h)
+
 -- the counts between two listed groups
 abbrev pub isCounts : Graph → List ℕ → List ℕ → ℕ → Bool
 isCounts g S T E = eqb (edges g (members S) (members T)) E && (eqb (card g (members S)) (length S) && eqb (card g (members T)) (length T))
@@ -270,11 +296,11 @@ holds f (level x y) = isAccepted f && isLast (graphOf f) (λ j. x) (λ j. j) y
 holds f (across y x) = isAccepted f && isLast (graphOf f) (λ j. j) (λ j. y) x
 holds f (finding x y k S T E) =
     isAccepted f
-    && (isFinding (graphOf f) x y (members S) (members T) && (isLast (graphOf f) (λ j. j) (λ j. j) k && isCounts (graphOf f) S T E))
+    && (isOutcome (graphOf f) x y (members S) (members T) && (isLast (graphOf f) (λ j. j) (λ j. j) k && isCounts (graphOf f) S T E))
 holds f (layers l rings) =
     isAccepted f && (areLayers (graphOf f) (λ e. getD l e 0) (length rings) && areRings (graphOf f) (λ e. getD l e 0) 1 rings)
+holds f (has n m) = isRefusal (fileRefusal f) none && (eqb (graphOf f .order) n && eqb (graphOf f .size) m)
 holds f (gives r) = isRefusal (fileRefusal f) r
-holds f (findingGives r) = isRefusal (findingRefusal f (graphOf f .order) (graphOf f .order) (workLength (graphOf f .order) (graphOf f .size))) r
 
 -- a claim that passes its test holds
 holds-sound : (f : List ℕ) (c : Claim) → holds f c ≡ true → Says f c
@@ -294,11 +320,11 @@ holds-sound f (across y x) h =
 holds-sound f (finding x y j S T E) h =
     let (a, r) = both (isAccepted f) _ h in
     let (o, k) = accepted-sound f a in
-    let (p, t) = both (isFinding (graphOf f) x y (members S) (members T)) _ r in
+    let (p, t) = both (isOutcome (graphOf f) x y (members S) (members T)) _ r in
     let (e, q) = both (isLast (graphOf f) (λ i. i) (λ i. i) j) _ t in
     record {
       accepted = o;
-      finding = finding-sound k x y (members S) (members T) p;
+      outcome = outcome-sound k x y (members S) (members T) p;
       level = last-sound k (λ i. i) (λ i. i) j (λ i m l. (l, l)) e;
       counts = counts-sound (graphOf f) S T E q;
     }
@@ -308,8 +334,11 @@ holds-sound f (layers l rings) h =
     let (p, q) = both (areLayers (graphOf f) (λ e. getD l e 0) (length rings)) _ r in
     let (layer, each) = rings-sound k (λ e. getD l e 0) 1 rings q in
     record { accepted = o; layering = layering-sound k (λ e. getD l e 0) rings p layer; each = each }
+holds-sound f (has n m) h =
+    let (a, r) = both (isRefusal (fileRefusal f) none) _ h in
+    let (p, q) = both (eqb (graphOf f .order) n) _ r in
+    (refusal-sound (fileRefusal f) none a, eqb-true _ _ p, eqb-true _ _ q)
 holds-sound f (gives r) h = refusal-sound (fileRefusal f) r h
-holds-sound f (findingGives r) h = refusal-sound (findingRefusal f (graphOf f .order) (graphOf f .order) (workLength (graphOf f .order) (graphOf f .size))) r h
 
 -- the test of every case of a table
 abbrev pub allHold : List Case → Bool

@@ -4,13 +4,13 @@ use mathlib.Core.Bool.{false, _||_}
 use mathlib.Core.List.{List, [], _∷_, _++_}
 use mathlib.Core.Path.{_≡_}
 use lib.Dec.{eqb}
-use lib.ListN.{length, getD}
+use lib.ListN.{length, getD, take}
 use Rattle.graph.specs.Graph.{Graph, Group, card, edges}
 use Rattle.graph.specs.Core.{Core, Level, LevelAcross, EqualLevel, Finding}
+use Rattle.graph.specs.Quiet.{Outcome}
 use Rattle.graph.specs.Layers.{stillIn, Layering}
 use Rattle.network.specs.declared.Refusal.{Refusal}
 use Rattle.network.specs.File.{graphOf, none, plain, at, fileRefusal}
-use Rattle.network.specs.Refusals.{workLength, findingRefusal}
 use Rattle.network.specs.Bytes.{header, edgeBytes}
 
 -- the group of the listed members
@@ -34,14 +34,14 @@ pub data Claim : Type 0 where
   level : (x y : ℕ) → Claim
   -- the level across, for y, is x
   across : (y x : ℕ) → Claim
-  -- the finding is [x,y] with S, T and E, and the equal level is k
+  -- the finding is [x,y] with S, T and E, or nothing with zeros, and the equal level is k
   finding : (x y k : ℕ) (S T : List ℕ) (E : ℕ) → Claim
   -- the links have the listed layers, which are these rings, one after the other
   layers : List ℕ → List Ring → Claim
+  -- the file is accepted, with n members and m links
+  has : (n m : ℕ) → Claim
   -- the file's own bytes give this refusal, or none
   gives : Refusal → Claim
-  -- the finding call gives this refusal when its lent tables are as long as it needs
-  findingGives : Refusal → Claim
 
 -- the counts between the listed groups: E links, and no member listed twice or beyond the network
 pub record Counts (g : Graph) (S T : List ℕ) (E : ℕ) : Type 0 where
@@ -55,10 +55,10 @@ pub record SaysCore (f : List ℕ) (x y : ℕ) (S T : List ℕ) (E : ℕ) : Type
   pub core : Core (graphOf f) x y (members S) (members T)
   pub counts : Counts (graphOf f) S T E
 
--- the file is accepted, and (S,T) is the finding of its network, for [x,y]
+-- the file is accepted, and (S,T) is what is found in its network, for [x,y]
 pub record SaysFinding (f : List ℕ) (x y k : ℕ) (S T : List ℕ) (E : ℕ) : Type 0 where
   pub accepted : fileRefusal f ≡ none
-  pub finding : Finding (graphOf f) x y (members S) (members T)
+  pub outcome : Outcome (graphOf f) x y (members S) (members T)
   pub level : EqualLevel (graphOf f) k
   pub counts : Counts (graphOf f) S T E
 
@@ -82,8 +82,8 @@ Says f (level x y) = (fileRefusal f ≡ none) × Level (graphOf f) x y
 Says f (across y x) = (fileRefusal f ≡ none) × LevelAcross (graphOf f) y x
 Says f (finding x y k S T E) = SaysFinding f x y k S T E
 Says f (layers l rings) = SaysLayers f l rings
+Says f (has n m) = (fileRefusal f ≡ none) × (graphOf f .order ≡ n) × (graphOf f .size ≡ m)
 Says f (gives r) = fileRefusal f ≡ r
-Says f (findingGives r) = findingRefusal f (graphOf f .order) (graphOf f .order) (workLength (graphOf f .order) (graphOf f .size)) ≡ r
 
 -- a file and one claim on it
 pub record Case : Type 0 where
@@ -98,7 +98,7 @@ W = header 6 8 ++ edgeBytes 0 3 ++ edgeBytes 0 4 ++ edgeBytes 1 3 ++ edgeBytes 1
 abbrev pub says : List ℕ → Claim → Case
 says f c = record { file = f; claim = c }
 
--- P1 to P9, W's report and W's layers, then the limits of a file
+-- P1 to P9, W's report and W's layers, zero bytes, then the limits of a file
 unfoldable pub cases : List Case
 cases =
     -- P1
@@ -127,8 +127,16 @@ cases =
     ∷ says (header 6 4 ++ edgeBytes 0 1 ++ edgeBytes 0 2 ++ edgeBytes 3 5 ++ edgeBytes 4 5) (finding 1 2 1 (3 ∷ 4 ∷ []) (5 ∷ []) 2)
     -- P8
     ∷ says (header 1 1 ++ edgeBytes 0 0) (finding 1 1 1 (0 ∷ []) (0 ∷ []) 1)
-    -- P9
-    ∷ says (header 1 0) (findingGives (plain 13))
+    -- P9, by 02, wish 3: nothing is found, and there is no layer
+    ∷ says (header 1 0) (finding 0 0 0 [] [] 0)
+    ∷ says (header 1 0) (layers [] [])
+    -- zero bytes count as the version 1 file with n 0 and m 0; from 1 to 8 bytes 1 is given
+    ∷ says [] (has 0 0)
+    ∷ says [] (finding 0 0 0 [] [] 0)
+    ∷ says [] (layers [] [])
+    ∷ says (take 1 (header 0 0)) (gives (plain 1))
+    ∷ says (take 8 (header 0 0)) (gives (plain 1))
+    ∷ says (header 0 0) (has 0 0)
     -- n: 2,048 is accepted, 2,049 is not
     ∷ says (header 2048 0) (gives none)
     ∷ says (header 2049 0) (gives (plain 4))

@@ -13,17 +13,17 @@ use Rattle.network.specs.declared.Refusal.{Refusal}
 use Rattle.network.specs.declared.Totals.{Totals}
 use Rattle.network.specs.File.{graphOf, none, plain, fileRefusal}
 use Rattle.network.specs.Groups.{groupOf, GroupIn, totals}
-use Rattle.network.specs.Refusals.{workLength, coreRefusal, levelRefusal, equalLevelRefusal, findingRefusal}
+use Rattle.network.specs.Refusals.{workLength, coreRefusal, levelRefusal, equalLevelRefusal}
 use Rattle.network.specs.Calls.{refused, accepted}
 use Rattle.network.proofs.Accepted.{cond-none, or-fails}
 use Rattle.network.proofs.Answers.{orElse-found, orElse-second}
 use Rattle.peeling.specs.Peeling.{Small, Held, Kept}
 use Rattle.cores.specs.declared.Ask.{Ask}
-use Rattle.cores.specs.declared.Ask.the-variants.{Nothing, NotZero, SomeLink}
+use Rattle.cores.specs.declared.Ask.the-variants.{Nothing, NotZero}
 use Rattle.cores.specs.declared.Entry.{Entry}
 use Rattle.cores.specs.declared.Entry.the-variants.{Ready, Refused}
 use Rattle.cores.specs.Calls.{WorkKept, GroupsTold}
-use Rattle.cores.specs.Entries.{laterRefusal, entryRefusal, Entered, EntryCall}
+use Rattle.cores.specs.Entries.{askRefusal, laterRefusal, entryRefusal, Entered, EntryCall}
 
 module _ (ask : Ask) (f : List ℕ) (s t w : ℕ) where
   -- the file's own refusal comes first
@@ -44,15 +44,16 @@ later-long ask n m s t w e =
     let (p, q) = or-fails (ltb s n) (ltb t n) .0 c in
     (ltb-false _ _ p, ltb-false _ _ q, ltb-false _ _ d)
 
--- the refusal of the core call is that of the way in,
-pub core-entry : (f : List ℕ) (s t w : ℕ) → entryRefusal Nothing f s t w ≡ coreRefusal f s t w
+-- where nothing else is refused, the refusal of the way in is that of the core call, and of the finding,
+pub core-entry : (ask : Ask) (f : List ℕ) (s t w : ℕ) → askRefusal ask ≡ none → entryRefusal ask f s t w ≡ coreRefusal f s t w
 unfolding entryRefusal coreRefusal
-core-entry f s t w = refl
+core-entry ask f s t w e = rw e
 
--- with a link asked for that of the finding,
-pub finding-entry : (f : List ℕ) (s t w : ℕ) → entryRefusal SomeLink f s t w ≡ findingRefusal f s t w
-unfolding entryRefusal findingRefusal
-finding-entry f s t w = refl
+-- which is none where file and tables are as required;
+pub core-none : (f : List ℕ) (s t w : ℕ) → fileRefusal f ≡ none → graphOf f .order ≤ s → graphOf f .order ≤ t → workLength (graphOf f .order) (graphOf f .size) ≤ w
+    → coreRefusal f s t w ≡ none
+unfolding coreRefusal
+core-none f s t w e p q r = orElse-second _ e ∙ rw (le-ltb s (graphOf f .order) p, le-ltb t (graphOf f .order) q, le-ltb w (workLength (graphOf f .order) (graphOf f .size)) r)
 
 -- groups as long as the work table are not short where that is not,
 no-groups : (n m w : ℕ) → (ltb w n || ltb w n || ltb w (workLength n m)) ≡ ltb w (workLength n m)

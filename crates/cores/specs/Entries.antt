@@ -12,20 +12,19 @@ use Rattle.network.specs.Accepted.{Accepted}
 use Rattle.network.specs.Calls.{Call}
 use Rattle.peeling.specs.Peeling.{Tabled}
 use Rattle.cores.specs.declared.Ask.{Ask}
-use Rattle.cores.specs.declared.Ask.the-variants.{Nothing, NotZero, SomeLink}
+use Rattle.cores.specs.declared.Ask.the-variants.{Nothing, NotZero}
 use Rattle.cores.specs.declared.Entry.{Entry}
 use Rattle.cores.specs.declared.Entry.the-variants.{Ready, Refused}
 use Rattle.cores.specs.Calls.{WorkKept}
 
--- what is asked of a call beside the file and its tables, of m links
-abbrev pub askRefusal : Ask → ℕ → Refusal
-askRefusal Nothing m = none
-askRefusal (NotZero x) m = cond (eqb x 0) (plain 12) none
-askRefusal SomeLink m = cond (eqb m 0) (plain 13) none
+-- what is asked of a call beside the file and its tables
+abbrev pub askRefusal : Ask → Refusal
+askRefusal Nothing = none
+askRefusal (NotZero x) = cond (eqb x 0) (plain 12) none
 
 -- what comes after the file's own numbers, for n members and m links and the lengths of two groups and of the work table
 abbrev pub laterRefusal : Ask → ℕ → ℕ → ℕ → ℕ → ℕ → Refusal
-laterRefusal ask n m s t w = cond (ltb s n || ltb t n || ltb w (workLength n m)) (plain 9) (askRefusal ask m)
+laterRefusal ask n m s t w = cond (ltb s n || ltb t n || ltb w (workLength n m)) (plain 9) (askRefusal ask)
 
 -- the refusal at the way in
 unfoldable pub entryRefusal : Ask → List ℕ → ℕ → ℕ → ℕ → Refusal

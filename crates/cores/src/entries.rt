@@ -12,7 +12,7 @@ ghost use mathlib.Core.Path.{_≡_};
 ghost use Rattle.network.specs.File.{mostMembers, mostLinks, plain};
 ghost use Rattle.cores.specs.Entries.{laterRefusal, EntryCall};
 
-// The number that comes after the file's own, for n members and m links: 9, then by what is asked 12 or 13, or 0.
+// The number that comes after the file's own, for n members and m links: 9, then by what is asked 12, or 0.
 fn later_number(ask: Ask, n: usize, m: usize, s: usize, t: usize, work: usize) -> u16
     requires { ⌜ (n ≤ mostMembers) × (m ≤ mostLinks) ⌝ }
     ensures { λ r. ⌜ plain r ≡ laterRefusal ask n m s t work ⌝ }
@@ -29,7 +29,6 @@ fn later_number(ask: Ask, n: usize, m: usize, s: usize, t: usize, work: usize) -
     match ask {
         Ask::Nothing => 0,
         Ask::NotZero(number) => if number == 0 { 12 } else { 0 },
-        Ask::SomeLink => if m == 0 { 13 } else { 0 },
     }
 }
 

@@ -10,11 +10,10 @@ pub enum LevelAnswer {
     Refused(Refusal),
 }
 
-// What is asked of a call beside the file and its tables: nothing, a number that is not 0, or a link.
+// What is asked of a call beside the file and its tables: nothing, or a number that is not 0.
 pub enum Ask {
     Nothing,
     NotZero(u16),
-    SomeLink,
 }
 
 // What the way in answers: n and m, or the refusal.

@@ -6,7 +6,7 @@ use native.Mathlib.Omega.{arith}
 use Rattle.graph.specs.Graph.{Graph}
 use Rattle.graph.specs.Core.{Nonempty, EqualLevel, Before}
 use Rattle.graph.specs.Search.{BestTried}
-use Rattle.graph.proofs.Search.{best-start, best-row, best-column, factors}
+use Rattle.graph.proofs.Search.{best-start, best-row, best-column}
 use Rattle.network.specs.declared.Side.{Side}
 use Rattle.network.specs.declared.Side.the-variants.{Source, Target}
 use Rattle.peeling.specs.Peeling.{Tabled, Kept}
@@ -34,19 +34,19 @@ sidesLeft Target = 0
 pub record Searching (n m k : ℕ) (w w′ : List ℕ) (side : Side) (fixed : ℕ) (b : Best) : Type 0 where
   pub positive : 1 ≤ fixed
   pub bounded : fixed ≤ k + 1
-  pub in-range : 1 ≤ k → InRange b
+  pub in-range : InRange b
   pub kept : Kept n m w w′
   pub best : (g : Graph) → Tabled g n m w → EqualLevel g k → BestTried g (rowsTried side k (fixed - 1)) (columnsTried side (fixed - 1)) (b .x) (b .y)
 
--- a search begins with the equal level
-pub search-begins : {n m k : ℕ} (w : List ℕ) → k < 65536 → Searching n m k w w Source 1 (record { x = k; y = k })
-search-begins {n} {m} {k} w l =
+-- a search begins with the equal level, which is at least 1
+pub search-begins : {n m k : ℕ} (w : List ℕ) → 1 ≤ k → k < 65536 → Searching n m k w w Source 1 (record { x = k; y = k })
+search-begins {n} {m} {k} w p l =
     record {
       positive = omega arith;
       bounded = omega arith;
-      in-range = λ p. record { x-positive = p; y-positive = p; x-small = l; y-small = l };
+      in-range = record { x-positive = p; y-positive = p; x-small = l; y-small = l };
       kept = kept-same w;
-      best = λ g t e. best-start (λ p. e .holds (factors k k p .0));
+      best = λ g t e. best-start (λ q. e .holds p);
     }
 
 -- a search is one from every table with the same rows
@@ -74,7 +74,7 @@ search-more {n} {m} {k} {w} {w′} {w″} {side} {fixed} {b} {r} s l t =
     record {
       positive = omega arith;
       bounded = omega arith;
-      in-range = λ p. t .in-range;
+      in-range = t .in-range;
       kept = kept-next (s .kept) (t .kept);
       best = best;
     }
@@ -90,7 +90,7 @@ search-more {n} {m} {k} {w} {w′} {w″} {side} {fixed} {b} {r} s l t =
         let h′ = tabled-kept h (s .kept) in
         let was = s .best g h e in
         rw next-at
-        (best-next side k (fixed - 1) (r .x) (r .y) was (λ p. t .reached g h′ (was .reached (product-range (s .in-range (omega (arith, s .positive))) .0)))
+        (best-next side k (fixed - 1) (r .x) (r .y) was (λ p. t .reached g h′ (was .reached (product-range (s .in-range) .0)))
         (t .before) (rw now-at (t .all g h′)))
 
 -- after k rows, the columns
@@ -110,7 +110,6 @@ pub search-ends : {n m k : ℕ} {w w′ : List ℕ} {fixed : ℕ} {b : Best} →
 search-ends {n} {m} {k} {w} {w′} {fixed} {b} s l =
     let e : fixed - 1 ≡ k = omega (arith, s .bounded) in
     record {
-      in-range = s .in-range;
       kept = s .kept;
       best = rw e at (s .best);
     }

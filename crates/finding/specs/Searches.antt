@@ -3,8 +3,8 @@ use Prim.Native.Nat.{ℕ, _<_, _≤_}
 use mathlib.Core.List.{List}
 use mathlib.Core.Path.{_≡_}
 use Rattle.graph.specs.Graph.{Graph}
-use Rattle.graph.specs.Shapes.{total}
-use Rattle.graph.specs.Core.{Nonempty, EqualLevel, Before, Finding}
+use Rattle.graph.specs.Core.{Nonempty, EqualLevel, Before}
+use Rattle.graph.specs.Quiet.{Outcome}
 use Rattle.graph.specs.Search.{BestTried}
 use Rattle.network.specs.declared.Side.{Side}
 use Rattle.network.specs.declared.Side.the-variants.{Source, Target}
@@ -53,13 +53,12 @@ pub record Tries (n m : ℕ) (side : Side) (fixed : ℕ) (b : Best) (w w′ : Li
 
 -- every row and column up to k is tried
 pub record Searched (n m k : ℕ) (w w′ : List ℕ) (r : Best) : Type 0 where
-  pub in-range : 1 ≤ k → InRange r
   pub kept : Kept n m w w′
   pub best : (g : Graph) → Tabled g n m w → EqualLevel g k → BestTried g k k (r .x) (r .y)
 
--- the finding of every graph with an edge that the table holds
+-- what is found in every graph that the table holds
 pub record FoundIn (n m : ℕ) (w w′ s s′ t t′ : List ℕ) (r : Ring) : Type 0 where
-  pub finding : (g : Graph) → Tabled g n m w → 1 ≤ total g → Finding g (r .x) (r .y) (groupOf s′) (groupOf t′)
+  pub outcome : (g : Graph) → Tabled g n m w → Outcome g (r .x) (r .y) (groupOf s′) (groupOf t′)
   pub equal : (g : Graph) → Tabled g n m w → EqualLevel g (r .equal)
   pub counted : (g : Graph) → Tabled g n m w → r .totals ≡ totals g (groupOf s′) (groupOf t′)
   pub sources : GroupIn n s s′

@@ -10,7 +10,7 @@ ghost use Rattle.finding.specs.Findings.{FindingCall};
 pub fn finding(file: &[u8], s: &mut [u8], t: &mut [u8], work: &mut [u16]) -> FindingAnswer
     ensures { λ r. ⌜ FindingCall (now (file .entry)) (now (s .entry)) (now (s .exit)) (now (t .entry)) (now (t .exit)) (now (work .entry)) (now (work .exit)) r ⌝ }
 {
-    let entry = enter(file, Ask::SomeLink, s.len(), t.len(), work);
+    let entry = enter(file, Ask::Nothing, s.len(), t.len(), work);
     match entry {
         Entry::Refused(refusal) => FindingAnswer::Refused(refusal),
         Entry::Ready { order, size } => FindingAnswer::Found(find_in(work, order, size, s, t)),

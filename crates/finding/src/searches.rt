@@ -117,7 +117,7 @@ fn try_one(
 fn search(work: &mut [u16], order: usize, size: usize, k: usize) -> Best
     requires { ⌜ Small order size ⌝ }
     requires { ⌜ Held order size (now work) ⌝ }
-    requires { ⌜ k < 65536 ⌝ }
+    requires { ⌜ (1 ≤ k) × (k < 65536) ⌝ }
     ensures { λ r. ⌜ Searched order size k (now (work .entry)) (now (work .exit)) r ⌝ }
 {
     let mut best = Best { x: k, y: k };
@@ -140,7 +140,8 @@ fn search(work: &mut [u16], order: usize, size: usize, k: usize) -> Best
     best
 }
 
-// 01: the finding, of every graph whose rows the table holds.
+// 01: the finding, of every graph whose rows the table holds. Where the equal level is 0 there is no edge: x and y are 0, and the groups are those
+// of the [1,1]-core, which is empty (that of [0,0] is everybody).
 pub fn find_in(work: &mut [u16], order: usize, size: usize, s: &mut [u8], t: &mut [u8]) -> Ring
     requires { ⌜ Small order size ⌝ }
     requires { ⌜ Held order size (now work) ⌝ }
@@ -148,6 +149,25 @@ pub fn find_in(work: &mut [u16], order: usize, size: usize, s: &mut [u8], t: &mu
     ensures { λ r. ⌜ FoundIn order size (now (work .entry)) (now (work .exit)) (now (s .entry)) (now (s .exit)) (now (t .entry)) (now (t .exit)) r ⌝ }
 {
     let equal = climb(work, order, size, Rise::Both, 0, 1);
+    if equal == 0 {
+        let totals = core_in(
+            work,
+            Scope {
+                order,
+                size,
+                x: 1,
+                y: 1,
+            },
+            s,
+            t,
+        );
+        return Ring {
+            x: 0,
+            y: 0,
+            equal: 0,
+            totals,
+        };
+    }
     let best = search(work, order, size, equal);
     let x = best.x;
     let y = best.y;

@@ -9,10 +9,9 @@ use Rattle.graph.specs.Graph.{Graph, Group, card}
 use Rattle.graph.specs.Shapes.{Closed, total, Same}
 use Rattle.graph.specs.Core.{Core, Nonempty, Greatest, Level, LevelAcross, EqualLevel, Finding}
 use Rattle.graph.specs.Search.{BestTried}
-use Rattle.graph.proofs.Sums.{sum-some}
 use Rattle.graph.proofs.Exists.{core-exists, core-some, core-unique}
 use Rattle.graph.proofs.Search.{before-refl, before-total, before-trans, best-start, best-row, best-column, best-finding, level-before, level-across-before, factors}
-use Rattle.graph.proofs.Weights.{nonempty-x, nonempty-y, nonempty-one}
+use Rattle.graph.proofs.Weights.{nonempty-x, nonempty-y, linked-one}
 
 -- a core is empty or not
 pub nonempty? : {g : Graph} → Closed g → (x y : ℕ) → Dec (Nonempty g x y)
@@ -76,7 +75,7 @@ finding-exists {g} k p =
     let (j, l) = equal-level-exists k in
     let (x, y, s) = best-exists k j in
     let (S, T, c) = core-exists k x y in
-    (x, y, S, T, best-finding k (l .above 1 (omega arith) (nonempty-one k .1 (sum-some (g .weight) (g .size) p))) l s c)
+    (x, y, S, T, best-finding k (l .above 1 (omega arith) (linked-one k p)) l s c)
 
 -- the finding is a core that is not empty
 pub finding-nonempty : {g : Graph} {x y : ℕ} {S T : Group} → Finding g x y S T → Nonempty g x y

@@ -11,6 +11,7 @@ pub mod Density
 pub mod Search
 pub mod Weights
 pub mod Found
+pub mod Quiet
 pub mod Masks
 pub mod Layers
 pub mod Layered

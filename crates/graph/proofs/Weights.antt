@@ -13,7 +13,7 @@ use Rattle.graph.proofs.Exists.{nonempty-nested, nonempty-reverse}
 use Rattle.graph.proofs.Density.{bounded}
 
 -- no two groups have more links between them than there are
-edges-total : {g : Graph} → Closed g → (S T : Group) → edges g S T ≤ total g
+pub edges-total : {g : Graph} → Closed g → (S T : Group) → edges g S T ≤ total g
 edges-total k S T = edges-mono k {S = S} {S′ = λ u. true} {T = T} {T′ = λ v. true} (λ u l h. refl) (λ v l h. refl)
 
 -- x is at most the whole weight
@@ -35,3 +35,7 @@ nonempty-one {g} k = (some, one)
     one (e, l, p) =
         let b = bounded k (λ u. true) (λ v. true) (le-trans p (term-le-sum (g .weight) (g .size) e l)) in
         nonempty-nested k (b .x-positive) (b .y-positive) (b .nonempty)
+
+-- so where there is a link
+pub linked-one : {g : Graph} → Closed g → 1 ≤ total g → Nonempty g 1 1
+linked-one {g} k p = nonempty-one k .1 (sum-some (g .weight) (g .size) p)

@@ -1,6 +1,7 @@
 pub mod Range
 pub mod Graph
 pub mod Core
+pub mod Quiet
 pub mod Layers
 pub mod Order
 pub mod Shapes

@@ -5,8 +5,8 @@ use mathlib.Core.List.{List, _++_}
 use mathlib.Core.Logic.{_≢_}
 use mathlib.Core.Path.{_≡_, refl, sym, ap, _∙_}
 use native.Mathlib.Omega.{arith}
-use borrow.Author.Tests.{lt-ltb, le-ltb, ltb-false, eq-eqb, ne-eqb}
-use lib.Dec.{eqb, ltb}
+use borrow.Author.Tests.{lt-ltb, le-ltb, ltb-false}
+use lib.Dec.{ltb}
 use lib.ListN.{length, drop, List·getD-append}
 use Rattle.graph.specs.Layers.{Layering}
 use Rattle.graph.specs.Shapes.{Closed}
@@ -41,7 +41,7 @@ module _ (f : List ℕ) (l w : ℕ) where
   unfolding layersRefusal
   layers-proper =
       let g = graphOf f in
-      orElse-proper (file-proper f) (cond-proper (ltb l (g .size) || ltb w (workLength (g .order) (g .size))) (plain 9) refl (cond-proper (eqb (g .size) 0) (plain 13) refl none-proper))
+      orElse-proper (file-proper f) (cond-proper (ltb l (g .size) || ltb w (workLength (g .order) (g .size))) (plain 9) refl none-proper)
 
   -- so none was given where its number was found to be 0
   pub layers-found : {q : Refusal} → q ≡ layersRefusal f l w → q .number ≡ 0 → layersRefusal f l w ≡ none
@@ -59,16 +59,10 @@ module _ (f : List ℕ) (l w : ℕ) where
       unfolding layersRefusal
       layers-short-work h = sym (orElse-second _ e ∙ rw (le-ltb l (graphOf f .size) p, lt-ltb w (workLength (graphOf f .order) (graphOf f .size)) h))
 
-      module _ (q : workLength (graphOf f .order) (graphOf f .size) ≤ w) where
-        -- then 13 where there is no link,
-        pub layers-linkless : graphOf f .size ≡ 0 → plain 13 ≡ layersRefusal f l w
-        unfolding layersRefusal
-        layers-linkless z = sym (orElse-second _ e ∙ rw (le-ltb l (graphOf f .size) p, le-ltb w (workLength (graphOf f .order) (graphOf f .size)) q, eq-eqb (graphOf f .size) 0 z))
-
-        -- else none
-        pub layers-none : graphOf f .size ≢ 0 → none ≡ layersRefusal f l w
-        unfolding layersRefusal
-        layers-none n = sym (orElse-second _ e ∙ rw (le-ltb l (graphOf f .size) p, le-ltb w (workLength (graphOf f .order) (graphOf f .size)) q, ne-eqb (graphOf f .size) 0 n))
+      -- else none
+      pub layers-none : workLength (graphOf f .order) (graphOf f .size) ≤ w → none ≡ layersRefusal f l w
+      unfolding layersRefusal
+      layers-none q = sym (orElse-second _ e ∙ rw (le-ltb l (graphOf f .size) p, le-ltb w (workLength (graphOf f .order) (graphOf f .size)) q))
 
 -- layers in the first m entries of the one table, made in the entries of the other that are needed, are what the call promises
 pub layers-told : (f t p w q : List ℕ) {n k K : ℕ} → Closed (graphOf f) → n ≡ graphOf f .size → k ≡ workLength (graphOf f .order) (graphOf f .size)

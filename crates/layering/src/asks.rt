@@ -10,7 +10,7 @@ ghost use mathlib.Core.Path.{_≡_};
 ghost use Rattle.network.specs.Refusals.{layersRefusal};
 ghost use Rattle.layering.specs.Calls.{LayersCall};
 
-// The file's own number, then 9 by the lengths of the two tables, then 13.
+// The file's own number, then 9 by the lengths of the two tables.
 fn layers_refusal(file: &[u8], layers: usize, work: usize) -> Refusal
     ensures { λ r. ⌜ r ≡ layersRefusal (now (file .entry)) layers work ⌝ }
 {
@@ -24,9 +24,6 @@ fn layers_refusal(file: &[u8], layers: usize, work: usize) -> Refusal
     }
     if work < work_length(order_of(file), size) {
         return Refusal::plain(9);
-    }
-    if size == 0 {
-        return Refusal::plain(13);
     }
     Refusal::none()
 }

@@ -1,22 +1,23 @@
 -- When a file is accepted, what that says of its network, and how the refusal of a call is taken apart.
-use Prim.Native.Nat.{ℕ, _<_, _≤_}
+use Prim.Native.Nat.{ℕ, _+_, _<_, _≤_}
 use mathlib.Core.Bool.{Bool, true, false, not, cond, _||_, false≢true, and-eq-true-iff}
-use mathlib.Core.List.{List}
+use mathlib.Core.List.{List, [], _∷_}
 use mathlib.Core.Logic.{_↔_, Iff·rfl}
 use mathlib.Core.Path.{_≡_, refl, sym, ap, _∙_}
 use native.Mathlib.Decide.{decLe}
 use native.Mathlib.Nat.{le-antisymm}
 use native.Mathlib.Omega.{arith}
-use borrow.Author.Tests.{ltb-false, leb-false, eqb-true, eqb-false, not-false, le-ltb, lt-leb, eq-eqb}
+use borrow.Author.Tests.{ltb-false, leb-false, eqb-true, eqb-false, not-false, le-ltb, lt-leb, eq-eqb, ne-eqb}
 use lib.Dec.{eqb, leb, ltb}
+use lib.ListN.{length}
 use Rattle.graph.specs.Range.{first}
 use Rattle.graph.specs.Graph.{Graph}
 use Rattle.graph.specs.Shapes.{Closed, Simple}
 use Rattle.graph.proofs.Ranges.{first-le, first-passes, first-before, first-least, first-none}
 use Rattle.network.specs.declared.Refusal.{Refusal}
-use Rattle.network.specs.File.{graphOf, outside, same, repeat, none, fileRefusal}
+use Rattle.network.specs.File.{linkAt, graphOf, outside, same, repeat, none, fileRefusal}
 use Rattle.network.specs.Refusals.{orElse}
-use Rattle.network.specs.Accepted.{Accepted}
+use Rattle.network.specs.Accepted.{Accepted, Holds}
 
 -- a test for less fails exactly when the other is no greater
 pub ltb-fails : (a b : ℕ) → (ltb a b ≡ false) ↔ (b ≤ a)
@@ -52,6 +53,10 @@ pub cond-none : (b : Bool) (r s : Refusal) → eqb (r .number) 0 ≡ false → (
 cond-none true r s e = (λ h. absurd (eqb-false _ 0 e (ap (λ t. t .number) h)), λ (h, i). absurd (false≢true (sym h)))
 cond-none false r s e = (λ h. (refl, h), λ (h, i). i)
 
+-- under a test that fails what comes after is left
+cond-past : (b : Bool) (r s : Refusal) → b ≡ false → cond b r s ≡ s
+cond-past b r s e = rw e
+
 -- a refusal of number 0 is none
 pub record Proper (r : Refusal) : Type 0 where
   pub number-none : r .number ≡ 0 → r ≡ none
@@ -60,10 +65,14 @@ pub record Proper (r : Refusal) : Type 0 where
 pub none-proper : Proper none
 none-proper = record { number-none = λ h. refl }
 
--- so is a refusal of another number under a test, and what comes after
+-- so is one of two of which each is
+pub cond-either : (b : Bool) {r s : Refusal} → Proper r → Proper s → Proper (cond b r s)
+cond-either true p q = p
+cond-either false p q = q
+
+-- as a refusal of another number under a test, and what comes after
 pub cond-proper : (b : Bool) (r : Refusal) {s : Refusal} → eqb (r .number) 0 ≡ false → Proper s → Proper (cond b r s)
-cond-proper true r e p = record { number-none = λ h. absurd (eqb-false _ 0 e h) }
-cond-proper false r e p = p
+cond-proper b r e = cond-either b (record { number-none = λ h. absurd (eqb-false _ 0 e h) })
 
 -- two refusals, of which the second counts where the first is none, are none exactly when each is
 pub orElse-both : {r : Refusal} (s : Refusal) → Proper r → (orElse r s ≡ none) ↔ ((r ≡ none) × (s ≡ none))
@@ -75,16 +84,12 @@ orElse-both {r} s p = (go (eqb (r .number) 0) refl, λ (h, i). rw h i)
 
 -- of which the one that counts has number 0 only where it is none
 pub orElse-proper : {r s : Refusal} → Proper r → Proper s → Proper (orElse r s)
-orElse-proper {r} {s} p q = either (eqb (r .number) 0)
-  where
-    either : (b : Bool) → Proper (cond b s r)
-    either true = q
-    either false = p
+orElse-proper {r} p q = cond-either (eqb (r .number) 0) q p
 
 -- the refusal of a file has number 0 only where it is none
 pub file-proper : (f : List ℕ) → Proper (fileRefusal f)
 unfolding fileRefusal
-file-proper f = search (cond-proper, none-proper) depth 10
+file-proper f = cond-either (eqb (length f) 0) none-proper (search (cond-proper, none-proper) depth 10)
 
 -- no link is outside exactly when each joins two vertices of the graph
 pub outside-closed : (g : Graph) → (outside g ≡ g .size) ↔ Closed g
@@ -113,12 +118,30 @@ repeat-simple g = simp (first-all, ltb-fails) (simple, distinct)
           | no p ↦ let (i, j) = same-ends g _ e .0 (first-passes (λ d. same g d e) e (omega arith)) in absurd (omega (arith, s _ e (omega arith) l i j))
         ]
 
+-- a file of some bytes is not empty
+pub some-bytes : (f : List ℕ) → 1 ≤ length f → eqb (length f) 0 ≡ false
+some-bytes f l = ne-eqb (length f) 0 (λ e. omega arith)
+
+-- zero bytes are accepted
+pub no-bytes : Accepted []
+no-bytes =
+    record {
+      sound = record { header = record { order-most = omega arith; size-most = omega arith; headed = λ h. absurd (omega arith) }; closed = omega arith };
+      simple = λ d e h. absurd (omega arith);
+    }
+
 -- a file is accepted exactly when none of its own numbers is given
 pub accepted : (f : List ℕ) → (fileRefusal f ≡ none) ↔ Accepted f
 unfolding fileRefusal
-accepted f =
-    simp (cond-none, first-fails, ltb-fails, not-fails, eqb-holds)
-    (λ t. search (outside-closed (graphOf f) .0, repeat-simple (graphOf f) .0), λ a. search (outside-closed (graphOf f) .1 (a .sound .closed), repeat-simple (graphOf f) .1 (a .simple)) depth 10)
+accepted [] = (λ t. no-bytes, λ a. refl)
+accepted (b ∷ r) = some (b ∷ r) (omega arith)
+  where
+    some : (f : List ℕ) → 1 ≤ length f → (fileRefusal f ≡ none) ↔ Accepted f
+    some f l =
+        simp (some-bytes f l, cond-past, cond-none, first-fails, ltb-fails, not-fails, eqb-holds) (
+          λ t. search (outside-closed (graphOf f) .0, repeat-simple (graphOf f) .0),
+          λ a. let h = a .sound .header .headed l in search (outside-closed (graphOf f) .1 (a .sound .closed), repeat-simple (graphOf f) .1 (a .simple)) depth 10,
+        )
 
 -- where another refusal comes after the file's, there is none exactly when the file is accepted and the other is none
 pub accepted-orElse : (f : List ℕ) (s : Refusal) → (orElse (fileRefusal f) s ≡ none) ↔ (Accepted f × (s ≡ none))
@@ -132,3 +155,8 @@ found-none f e z = file-proper f .number-none (ap (λ t. t .number) (sym e) ∙ 
 -- so the file is accepted
 pub found-accepted : (f : List ℕ) {r : Refusal} → r ≡ fileRefusal f → r .number ≡ 0 → Accepted f
 found-accepted f e z = accepted f .0 (found-none f e z)
+
+-- every edge lies within its file
+pub edge-within : (f : List ℕ) (e : ℕ) → Holds f e → (e < 65536) × (linkAt (e + 1) ≤ length f)
+edge-within [] e (h, l) = absurd (omega arith)
+edge-within (b ∷ r) e (h, l) = omega (arith, h .headed (omega arith) .exact, h .size-most)

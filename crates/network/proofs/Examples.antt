@@ -7,7 +7,7 @@ use Rattle.graph.specs.Graph.{reverse}
 use Rattle.graph.specs.Order.{rankBy, nthBy, starts, rows}
 use Rattle.network.specs.declared.Refusal.{Refusal}
 use Rattle.network.specs.File.{graphOf, none, plain, at, fileRefusal}
-use Rattle.network.specs.Refusals.{indexRefusal, rowRefusal, countRefusal, coreRefusal, levelRefusal, equalLevelRefusal, findingRefusal, layersRefusal, writeRefusal}
+use Rattle.network.specs.Refusals.{indexRefusal, rowRefusal, countRefusal, coreRefusal, levelRefusal, equalLevelRefusal, layersRefusal, writeRefusal}
 use Rattle.network.specs.Bytes.{written}
 
 -- the bytes of links between members below 256
@@ -35,7 +35,8 @@ pub record Case : Type 0 where
 -- a file for each number, with every later fault that it can have too, and accepted ones; 2,049 is 1 + 256 × 8 and 8,193 is 1 + 256 × 32
 abbrev pub cases : List Case
 cases =
-    record { file = []; refusal = plain 1 }
+    record { file = []; refusal = none }
+    ∷ record { file = 0x56 ∷ []; refusal = plain 1 }
     ∷ record { file = 0 ∷ 0 ∷ 0 ∷ 0 ∷ 1 ∷ 1 ∷ 8 ∷ 1 ∷ []; refusal = plain 1 }
     ∷ record { file = 0x56 ∷ 0x43 ∷ 0x49 ∷ 0 ∷ 1 ∷ 1 ∷ 8 ∷ 1 ∷ 32 ∷ []; refusal = plain 2 }
     ∷ record { file = 0x56 ∷ 0x43 ∷ 0x48 ∷ 0 ∷ 1 ∷ 1 ∷ 8 ∷ 1 ∷ 32 ∷ []; refusal = plain 3 }
@@ -85,10 +86,11 @@ pub record Call : Type 0 where
   pub given : Refusal
   pub expected : Refusal
 
--- a call with the file's own fault first, then with two that compete, then with each part of a fault alone, and an accepted one
+-- a call with the file's own fault first, then with two that compete, then with each part of a fault alone, and an accepted one; last, calls on
+-- zero bytes
 abbrev pub calls : List Call
 calls =
-    record { given = indexRefusal [] 0 0 0 0; expected = plain 1 }
+    record { given = indexRefusal (0 ∷ []) 0 0 0 0; expected = plain 1 }
     ∷ record { given = indexRefusal W 6 8 7 8; expected = plain 9 }
     ∷ record { given = indexRefusal W 7 7 7 8; expected = plain 9 }
     ∷ record { given = indexRefusal W 7 8 6 8; expected = plain 9 }
@@ -99,40 +101,46 @@ calls =
     ∷ record { given = rowRefusal (2 ∷ 1 ∷ []) (0 ∷ 0 ∷ []) 0; expected = plain 14 }
     ∷ record { given = rowRefusal (1 ∷ 3 ∷ []) (0 ∷ 0 ∷ []) 0; expected = plain 14 }
     ∷ record { given = rowRefusal (1 ∷ 1 ∷ 2 ∷ []) (0 ∷ 0 ∷ []) 1; expected = none }
-    ∷ record { given = countRefusal [] [] []; expected = plain 1 }
+    ∷ record { given = countRefusal (0 ∷ []) [] []; expected = plain 1 }
     ∷ record { given = countRefusal (small 2 0 []) (2 ∷ []) (2 ∷ 2 ∷ []); expected = plain 9 }
     ∷ record { given = countRefusal (small 2 0 []) (2 ∷ 2 ∷ []) (2 ∷ []); expected = plain 9 }
     ∷ record { given = countRefusal (small 2 0 []) (0 ∷ 2 ∷ []) (0 ∷ 1 ∷ []); expected = plain 11 }
     ∷ record { given = countRefusal (small 2 0 []) (0 ∷ 1 ∷ []) (2 ∷ 0 ∷ []); expected = plain 11 }
     ∷ record { given = countRefusal (small 2 0 []) (0 ∷ 1 ∷ 2 ∷ []) (1 ∷ 0 ∷ []); expected = none }
-    ∷ record { given = coreRefusal [] 0 0 0; expected = plain 1 }
+    ∷ record { given = coreRefusal (0 ∷ []) 0 0 0; expected = plain 1 }
     ∷ record { given = coreRefusal W 5 6 54; expected = plain 9 }
     ∷ record { given = coreRefusal W 6 5 54; expected = plain 9 }
     ∷ record { given = coreRefusal W 6 6 53; expected = plain 9 }
     ∷ record { given = coreRefusal W 6 6 54; expected = none }
-    ∷ record { given = levelRefusal [] 0 0; expected = plain 1 }
+    ∷ record { given = coreRefusal (small 1 0 []) 1 1 7; expected = plain 9 }
+    ∷ record { given = coreRefusal (small 1 0 []) 1 1 8; expected = none }
+    ∷ record { given = levelRefusal (0 ∷ []) 0 0; expected = plain 1 }
     ∷ record { given = levelRefusal W 0 53; expected = plain 9 }
     ∷ record { given = levelRefusal W 0 54; expected = plain 12 }
     ∷ record { given = levelRefusal W 1 54; expected = none }
-    ∷ record { given = equalLevelRefusal [] 0; expected = plain 1 }
+    ∷ record { given = equalLevelRefusal (0 ∷ []) 0; expected = plain 1 }
     ∷ record { given = equalLevelRefusal W 53; expected = plain 9 }
     ∷ record { given = equalLevelRefusal W 54; expected = none }
-    ∷ record { given = findingRefusal [] 0 0 0; expected = plain 1 }
-    ∷ record { given = findingRefusal (small 1 0 []) 1 1 7; expected = plain 9 }
-    ∷ record { given = findingRefusal (small 1 0 []) 1 1 8; expected = plain 13 }
-    ∷ record { given = findingRefusal W 6 6 54; expected = none }
-    ∷ record { given = layersRefusal [] 0 0; expected = plain 1 }
+    ∷ record { given = layersRefusal (0 ∷ []) 0 0; expected = plain 1 }
     ∷ record { given = layersRefusal W 7 54; expected = plain 9 }
     ∷ record { given = layersRefusal W 8 53; expected = plain 9 }
     ∷ record { given = layersRefusal (small 1 0 []) 0 7; expected = plain 9 }
-    ∷ record { given = layersRefusal (small 1 0 []) 0 8; expected = plain 13 }
+    ∷ record { given = layersRefusal (small 1 0 []) 0 8; expected = none }
     ∷ record { given = layersRefusal W 8 54; expected = none }
-    ∷ record { given = writeRefusal [] 0; expected = plain 1 }
+    ∷ record { given = writeRefusal (0 ∷ []) 0; expected = plain 1 }
     ∷ record { given = writeRefusal W 40; expected = plain 9 }
     ∷ record { given = writeRefusal W 41; expected = none }
+    ∷ record { given = indexRefusal [] 1 0 0 0; expected = plain 9 }
+    ∷ record { given = indexRefusal [] 1 0 1 0; expected = none }
+    ∷ record { given = coreRefusal [] 0 0 1; expected = plain 9 }
+    ∷ record { given = coreRefusal [] 0 0 2; expected = none }
+    ∷ record { given = layersRefusal [] 0 1; expected = plain 9 }
+    ∷ record { given = layersRefusal [] 0 2; expected = none }
+    ∷ record { given = writeRefusal [] 8; expected = plain 9 }
+    ∷ record { given = writeRefusal [] 9; expected = none }
     ∷ []
 
 -- each gives what it is to
 pub call-refusals : map (λ c. c .given) calls ≡ map (λ c. c .expected) calls
-unfolding first fileRefusal indexRefusal rowRefusal countRefusal coreRefusal levelRefusal equalLevelRefusal findingRefusal layersRefusal writeRefusal
+unfolding first fileRefusal indexRefusal rowRefusal countRefusal coreRefusal levelRefusal equalLevelRefusal layersRefusal writeRefusal
 call-refusals = refl

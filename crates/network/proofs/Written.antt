@@ -81,12 +81,9 @@ written-accepted {g} n m k s =
     record {
       sound = record {
         header = record {
-          long = omega (arith, length-written g);
-          is-marked = refl;
-          version = refl;
           order-most = omega (arith, written-order g);
           size-most = omega (arith, written-size g);
-          exact = omega (arith, length-written g, written-size g);
+          headed = λ h. record { long = omega (arith, length-written g); is-marked = refl; version = refl; exact = omega (arith, length-written g, written-size g) };
         };
         closed = written-closed k;
       };

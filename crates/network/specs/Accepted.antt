@@ -1,5 +1,5 @@
 -- What the tests of a file leave, one after the other.
-use Prim.Native.Nat.{ℕ, _+_, _<_, _≤_}
+use Prim.Native.Nat.{ℕ, _<_, _≤_}
 use mathlib.Core.Bool.{true}
 use mathlib.Core.List.{List}
 use mathlib.Core.Path.{_≡_}
@@ -7,14 +7,18 @@ use lib.ListN.{length}
 use Rattle.graph.specs.Shapes.{Closed, Simple}
 use Rattle.network.specs.File.{mostMembers, mostLinks, u16At, linkAt, graphOf, mark, marked}
 
--- the numbers 1 to 6: the header can be read, and the length is right
-pub record Header (f : List ℕ) : Type 0 where
+-- the numbers 1 to 3 and 6, where there are bytes: they begin with mark and version, and their length is right
+pub record Headed (f : List ℕ) : Type 0 where
   pub long : 9 ≤ length f
   pub is-marked : marked mark f ≡ true
   pub version : u16At f 3 ≡ 1
+  pub exact : length f ≡ linkAt (graphOf f .size)
+
+-- the numbers 1 to 6, none of which zero bytes give
+pub record Header (f : List ℕ) : Type 0 where
   pub order-most : graphOf f .order ≤ mostMembers
   pub size-most : graphOf f .size ≤ mostLinks
-  pub exact : length f ≡ linkAt (graphOf f .size)
+  pub headed : 1 ≤ length f → Headed f
 
 -- and 7: each edge joins two vertices
 pub record Sound (f : List ℕ) : Type 0 where
@@ -26,6 +30,6 @@ pub record Accepted (f : List ℕ) : Type 0 where
   pub sound : Sound f
   pub simple : Simple (graphOf f)
 
--- edge e lies within the file
+-- e is an edge of a file that passes the numbers 1 to 6
 abbrev pub Holds : List ℕ → ℕ → Type 0
-Holds f e = (e < 65536) × (linkAt (e + 1) ≤ length f)
+Holds f e = Header f × (e < graphOf f .size)

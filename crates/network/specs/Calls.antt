@@ -13,8 +13,3 @@ pub data Call {Answer Value : Type 0} (refusal : Refusal) (tells : Refusal → A
   refused : refusal .number ≢ 0 → answer ≡ tells refusal → after ≡ before → Call refusal tells answers before after done answer
   -- there is no refusal: the answer is the values, and of these holds what the call does
   accepted : (values : Value) → refusal ≡ none → answer ≡ answers values → done values → Call refusal tells answers before after done answer
-
--- the answer is a refusal, whichever
-pub record IsRefused {Answer : Type 0} (tells : Refusal → Answer) (answer : Answer) : Type 0 where
-  pub refusal : Refusal
-  pub told : answer ≡ tells refusal

@@ -71,10 +71,12 @@ at k e = record { number = k; link = e }
 abbrev pub namesLink : ℕ → Bool
 namesLink k = eqb k 7 || eqb k 8
 
--- 01: the number that the file's own bytes give, which is the refusal of the check
+-- 01: the number that the file's own bytes give, which is the refusal of the check. 02, wish 3: zero bytes give none, since they count as the
+-- version 1 file with n 0 and m 0, as which `graphOf` reads them; 1 is for 1 to 8 bytes.
 unfoldable pub fileRefusal : List ℕ → Refusal
 fileRefusal f =
-    cond (ltb (length f) 9) (plain 1)
+    cond (eqb (length f) 0) none
+    (cond (ltb (length f) 9) (plain 1)
     (cond (not (marked mark f)) (plain 2)
     (cond (not (eqb (u16At f 3) 1)) (plain 3)
     (cond (ltb mostMembers (graphOf f .order)) (plain 4)
@@ -82,4 +84,4 @@ fileRefusal f =
     (cond (not (eqb (length f) (linkAt (graphOf f .size)))) (plain 6)
     (cond (ltb (outside (graphOf f)) (graphOf f .size)) (at 7 (outside (graphOf f)))
     (cond (ltb (repeat (graphOf f)) (graphOf f .size)) (at 8 (repeat (graphOf f)))
-    none)))))))
+    none))))))))

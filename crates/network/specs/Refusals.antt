@@ -41,7 +41,7 @@ countRefusal f s t =
     inOrder f (ltb (length s) (g .order) || ltb (length t) (g .order))
     (cond (not (isGroup (g .order) s && isGroup (g .order) t)) (plain 11) none)
 
--- the file, and the lengths of the two groups and of the work table
+-- the file, and the lengths of the two groups and of the work table: of core and of finding
 unfoldable pub coreRefusal : List ℕ → ℕ → ℕ → ℕ → Refusal
 coreRefusal f s t w =
     let g = graphOf f in
@@ -59,17 +59,11 @@ equalLevelRefusal f w =
     let g = graphOf f in
     inOrder f (ltb w (workLength (g .order) (g .size))) none
 
--- the file, and the lengths of the two groups and of the work table
-unfoldable pub findingRefusal : List ℕ → ℕ → ℕ → ℕ → Refusal
-findingRefusal f s t w =
-    let g = graphOf f in
-    inOrder f (ltb s (g .order) || ltb t (g .order) || ltb w (workLength (g .order) (g .size))) (cond (eqb (g .size) 0) (plain 13) none)
-
 -- the file, and the lengths of the layer table and of the work table
 unfoldable pub layersRefusal : List ℕ → ℕ → ℕ → Refusal
 layersRefusal f l w =
     let g = graphOf f in
-    inOrder f (ltb l (g .size) || ltb w (workLength (g .order) (g .size))) (cond (eqb (g .size) 0) (plain 13) none)
+    inOrder f (ltb l (g .size) || ltb w (workLength (g .order) (g .size))) none
 
 -- the file and the length of the output
 unfoldable pub writeRefusal : List ℕ → ℕ → Refusal

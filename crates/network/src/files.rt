@@ -2,7 +2,7 @@
 use crate::Side;
 ghost use mathlib.Core.Path.{_≡_};
 ghost use Prim.Native.Nat.{_+_, _*_, _<_, _≤_};
-ghost use lib.ListN.{length};
+ghost use lib.ListN.{length, getD};
 ghost use Rattle.network.specs.File.{u16At, linkAt, graphOf, marked};
 ghost use Rattle.network.specs.Accepted.{Holds};
 ghost use Rattle.network.specs.Refusals.{workLength};
@@ -42,20 +42,28 @@ pub fn is_marked(file: &[u8], mark: &[u8]) -> bool
     file[2] == mark[2]
 }
 
-// 01: n.
-pub fn order_of(file: &[u8]) -> usize
-    requires { ⌜ 9 ≤ length (now file) ⌝ }
-    ensures { λ r. ⌜ (r ≡ graphOf (now (file .entry)) .order) × (r < 65536) ⌝ }
+// A byte of the file, or 0 past its end.
+fn byte_at(file: &[u8], at: usize) -> usize
+    ensures { λ r. ⌜ (r ≡ getD (now (file .entry)) at 0) × (r < 256) ⌝ }
 {
-    u16_at(file, 5)
+    if file.len() <= at {
+        return 0;
+    }
+    wide(file[at])
 }
 
-// 01: m.
+// 01: n. Zero bytes count as the file without vertices and edges (02, wish 3), so nothing past the end is read.
+pub fn order_of(file: &[u8]) -> usize
+    ensures { λ r. ⌜ (r ≡ graphOf (now (file .entry)) .order) × (r < 65536) ⌝ }
+{
+    byte_at(file, 5) + 256 * byte_at(file, 6)
+}
+
+// 01: m, in the same way.
 pub fn size_of(file: &[u8]) -> usize
-    requires { ⌜ 9 ≤ length (now file) ⌝ }
     ensures { λ r. ⌜ (r ≡ graphOf (now (file .entry)) .size) × (r < 65536) ⌝ }
 {
-    u16_at(file, 7)
+    byte_at(file, 7) + 256 * byte_at(file, 8)
 }
 
 // Where an edge starts in the file; past the last one it is the file's length.

@@ -66,7 +66,7 @@ memberText group u = cond (groupOf group u) (spaced u) []
 abbrev pub membersText : List ℕ → ℕ → List ℕ
 membersText group = flat (memberText group)
 
--- 01: the line of a group; its letter alone where it is empty
+-- 01: the line of a group; 02, wish 3: its letter alone where it is empty
 unfoldable pub groupText : List ℕ → List ℕ → ℕ → List ℕ
 groupText letter group n = letter ++ membersText group n ++ newline
 

@@ -1,4 +1,4 @@
-// A client of the library: some calls on network W of 01, over tables of its own. What it prints is in the file stdout.
+// A client of the library: some calls on network W of 01, and on no bytes at all, over tables of its own. What it prints is in the file stdout.
 use cogsplice::CheckAnswer;
 use cogsplice::FindingAnswer;
 use cogsplice::LayersAnswer;
@@ -89,4 +89,7 @@ fn main() {
     try_row(w);
     try_finding(w);
     try_layers(w);
+    try_check(b"");
+    try_finding(b"");
+    try_layers(b"");
 }

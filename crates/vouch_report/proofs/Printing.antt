@@ -1,42 +1,37 @@
 -- From the finding call to what is printed: the program's tables are as long as the largest file needs, so that 9 is never given, and
--- the answer tells the refusal or the finding.
+-- the answer tells the refusal or what is found.
 use Prim.Native.Nat.{ℕ}
 use mathlib.Core.List.{List}
-use mathlib.Core.Logic.{_≢_}
 use mathlib.Core.Path.{_≡_, sym, ap, _∙_}
 use native.Mathlib.Decide.{decLe}
 use native.Mathlib.Omega.{arith}
-use borrow.Author.Tests.{le-ltb}
 use lib.ListN.{length}
 use Rattle.network.specs.declared.Refusal.{Refusal}
 use Rattle.network.specs.File.{mostMembers, mostLinks, graphOf, none, fileRefusal}
-use Rattle.network.specs.Refusals.{workLength, findingRefusal}
+use Rattle.network.specs.Refusals.{workLength, coreRefusal}
 use Rattle.network.specs.Accepted.{Sound}
 use Rattle.network.specs.Calls.{refused, accepted}
 use Rattle.network.proofs.Accepted.{file-proper}
 use Rattle.network.proofs.Accepted as file
-use Rattle.network.proofs.Answers.{refusal-some, orElse-first, orElse-second}
+use Rattle.network.proofs.Answers.{refusal-some, orElse-first}
+use Rattle.cores.proofs.WayIn.{core-none}
 use Rattle.finding.specs.declared.Ring.{Ring}
 use Rattle.finding.specs.declared.FindingAnswer.{FindingAnswer}
 use Rattle.finding.specs.declared.FindingAnswer.the-variants.{Found, Refused}
 use Rattle.finding.specs.Findings.{FindingTold, FindingCall}
-use Rattle.finding.proofs.FindingCalls.{finding-sound}
 use Rattle.report.specs.Text.{refusalText, reportText, Begins}
-use Rattle.vouch_report.specs.Printed.{printedRefusal, Rendered}
+use Rattle.vouch_report.specs.Printed.{Rendered}
 use Rattle.vouch_report.specs.Parts.{refusalOf, numbersOf}
 
--- tables for the largest file are long enough for every file, so that the finding is refused as the program says
-pub finding-full : (f : List ℕ) → findingRefusal f mostMembers mostMembers (workLength mostMembers mostLinks) ≡ printedRefusal f
-unfolding findingRefusal printedRefusal
+-- tables for the largest file are long enough for every file, so that the finding is refused as the file is
+finding-full : (f : List ℕ) → coreRefusal f mostMembers mostMembers (workLength mostMembers mostLinks) ≡ fileRefusal f
+unfolding coreRefusal
 finding-full f =
     elim (decLe (fileRefusal f .number) 0) [
-      | no n ↦ let k : fileRefusal f .number ≢ 0 = λ i. n (omega (arith, i)) in orElse-first _ k ∙ sym (orElse-first _ k)
+      | no n ↦ orElse-first _ (λ i. n (omega (arith, i)))
       | yes z ↦ let e = file-proper f .number-none (omega (arith, z)) in
-          let a = file.accepted f .0 e in
-          orElse-second _ e ∙ rw (
-            le-ltb mostMembers (graphOf f .order) (omega (arith, a .sound .header)),
-            le-ltb (workLength mostMembers mostLinks) (workLength (graphOf f .order) (graphOf f .size)) (omega (arith, a .sound .header)),
-          ) (sym (orElse-second _ e))
+          let h = file.accepted f .0 e .sound .header in
+          core-none f mostMembers mostMembers (workLength mostMembers mostLinks) e (h .order-most) (h .order-most) (omega (arith, h)) ∙ sym e
     ]
 
 -- the lengths of the program's tables
@@ -44,16 +39,16 @@ abbrev pub Full : List ℕ → List ℕ → List ℕ → Type 0
 Full s t w = (length s ≡ mostMembers) × (length t ≡ mostMembers) × (length w ≡ workLength mostMembers mostLinks)
 
 module _ {f s s′ t t′ w w′ : List ℕ} {a : FindingAnswer} (z : Full s t w) (c : FindingCall f s s′ t t′ w w′ a) where
-  -- in them the call is refused as the program says
-  call-refusal : findingRefusal f (length s) (length t) (length w) ≡ printedRefusal f
+  -- in them the call is refused as the file is
+  call-refusal : coreRefusal f (length s) (length t) (length w) ≡ fileRefusal f
   call-refusal = rw (z .0, z .1, z .2) (finding-full f)
 
   -- a refused finding: its line is printed
   pub rendered-refused : {before after : List ℕ} {r : ℕ} (q : Refusal) → a ≡ Refused q → {p : Refusal} → p ≡ refusalOf a → Begins before (refusalText p) after r → Rendered f before after r
   rendered-refused q i {p} e b = elim (c .call) [
     | refused n j k ↦
-        let told : q ≡ findingRefusal f (length s) (length t) (length w) = cc in
-        let same : p ≡ printedRefusal f = e ∙ ap refusalOf i ∙ told ∙ call-refusal in
+        let told : q ≡ coreRefusal f (length s) (length t) (length w) = cc in
+        let same : p ≡ fileRefusal f = e ∙ ap refusalOf i ∙ told ∙ call-refusal in
         record {
           text = refusalText p;
           prints = record { refused = λ h. ap refusalText same; accepted = λ h. absurd (refusal-some n (call-refusal ∙ h)) };
@@ -63,7 +58,7 @@ module _ {f s s′ t t′ w w′ : List ℕ} {a : FindingAnswer} (z : Full s t w
   ]
 
   -- the call that found has found this
-  found-told : (g : Ring) → a ≡ Found g → (findingRefusal f (length s) (length t) (length w) ≡ none) × FindingTold f s s′ t t′ w w′ g
+  found-told : (g : Ring) → a ≡ Found g → (coreRefusal f (length s) (length t) (length w) ≡ none) × FindingTold f s s′ t t′ w w′ g
   found-told g i = elim (c .call) [
     | refused n j k ↦ absurd (let x : _≡_ {A = ℕ} 0 1 = cc in omega arith)
     | accepted v n j d ↦ let x : v ≡ g = cc in (n, rw x at d)
@@ -71,7 +66,7 @@ module _ {f s s′ t t′ w w′ : List ℕ} {a : FindingAnswer} (z : Full s t w
 
   -- so its file is accepted,
   pub found-sound : (g : Ring) → a ≡ Found g → Sound f
-  found-sound g i = finding-sound f _ _ _ (found-told g i .0)
+  found-sound g i = file.accepted f .0 (sym call-refusal ∙ found-told g i .0) .sound
 
   -- and its report is printed
   pub rendered-found : {before after : List ℕ} {r : ℕ} (g : Ring) → a ≡ Found g → {n : ℕ} → n ≡ graphOf f .order → Begins before (reportText (numbersOf g) s′ t′ n) after r → Rendered f before after r
@@ -85,7 +80,7 @@ module _ {f s s′ t t′ w w′ : List ℕ} {a : FindingAnswer} (z : Full s t w
             numbers = numbersOf g;
             s = s′;
             t = t′;
-            finding = d .finding;
+            outcome = d .outcome;
             equal = d .equal;
             counted = let k = d .groups .counted in (ap (λ c. c .edges) k, ap (λ c. c .sources) k, ap (λ c. c .targets) k);
             same = ap (reportText (numbersOf g) s′ t′) e;

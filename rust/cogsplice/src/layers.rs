@@ -6,7 +6,7 @@ use std::fmt;
 ///
 /// Layer 1 is the links between the two groups of the finding. They are taken out, and layer 2 is the links between the two groups of
 /// the finding of what remains; so it goes on until no link remains. Each link has one layer, and `x * y` never rises from a layer to the
-/// next.
+/// next. A network without links has no layers.
 #[derive(Clone, Debug, PartialEq, Eq)]
 pub struct Layers {
     pub(crate) count: usize,
@@ -24,7 +24,7 @@ impl Layers {
     ///
     /// ```
     /// let network = cogsplice::Network::from_links(6, &[(0, 1), (0, 2), (3, 5), (4, 5)]).unwrap();
-    /// assert_eq!(network.layers().unwrap().of_links(), [2, 2, 1, 1]);
+    /// assert_eq!(network.layers().of_links(), [2, 2, 1, 1]);
     /// ```
     pub fn of_links(&self) -> &[u16] {
         &self.of_links
@@ -34,7 +34,7 @@ impl Layers {
     ///
     /// ```
     /// let network = cogsplice::Network::from_links(6, &[(0, 1), (0, 2), (3, 5), (4, 5)]).unwrap();
-    /// let layers = network.layers().unwrap();
+    /// let layers = network.layers();
     /// assert_eq!(layers.links(2).collect::<Vec<_>>(), [(0, 1), (0, 2)]);
     /// assert_eq!(layers.links(3).count(), 0);
     /// ```
@@ -49,13 +49,13 @@ impl Layers {
     ///
     /// ```
     /// let network = cogsplice::Network::from_links(6, &[(0, 1), (0, 2), (3, 5), (4, 5)]).unwrap();
-    /// let layers = network.layers().unwrap();
-    /// assert_eq!(layers.pair(1), network.finding().unwrap().pair);
+    /// let layers = network.layers();
+    /// assert_eq!(layers.pair(1), network.finding().pair);
     /// let second = layers.pair(2);
     /// assert_eq!((second.s, second.t, second.edges), (vec![0], vec![1, 2], 2));
     /// ```
     pub fn pair(&self, layer: usize) -> Pair {
-        // x and y of a finding are at least 1: each member of S has a link into T, and each of T one from S, so that the links name
+        // x and y of a layer are at least 1: each member of S has a link into T, and each of T one from S, so that the links name
         // all of both groups.
         let (s, t): (BTreeSet<usize>, BTreeSet<usize>) = self.links(layer).unzip();
         Pair {
@@ -70,7 +70,7 @@ impl Layers {
 ///
 /// ```
 /// let network = cogsplice::Network::from_links(6, &[(0, 1), (0, 2), (3, 5), (4, 5)]).unwrap();
-/// assert_eq!(network.layers().unwrap().to_string(), "layer 1 3>5 4>5\nlayer 2 0>1 0>2");
+/// assert_eq!(network.layers().to_string(), "layer 1 3>5 4>5\nlayer 2 0>1 0>2");
 /// ```
 impl fmt::Display for Layers {
     fn fmt(&self, f: &mut fmt::Formatter<'_>) -> fmt::Result {

@@ -2,7 +2,7 @@
 //!
 //! Every call is safe on slices of any length and content: none has a precondition. `refusal` is 0 where a call was accepted; of a
 //! refused call every other number is 0 but for `link`, and no table has changed. What lies past the entries that a call needs stays
-//! unchanged.
+//! unchanged. Zero bytes count as the file without members and links.
 use crate::Side;
 
 /// `n` and `m` of a file.
@@ -203,7 +203,7 @@ pub fn equal_level(file: &[u8], work: &mut [u16]) -> LevelNumbers {
     unsafe { cogsplice_equal_level(file.as_ptr(), file.len(), work.as_mut_ptr(), work.len()) }
 }
 
-/// Writes the finding.
+/// Writes the finding; zeros and empty groups where the file has no link.
 #[rustfmt::skip]
 pub fn finding(file: &[u8], s: &mut [u8], t: &mut [u8], work: &mut [u16]) -> FindingNumbers {
     unsafe {
@@ -214,7 +214,7 @@ pub fn finding(file: &[u8], s: &mut [u8], t: &mut [u8], work: &mut [u16]) -> Fin
     }
 }
 
-/// Writes the layer of each link, counted from 1, in the order of the file.
+/// Writes the layer of each link, counted from 1, in the order of the file; there are none where the file has no link.
 #[rustfmt::skip]
 pub fn layers(file: &[u8], layers: &mut [u16], work: &mut [u16]) -> LayersNumbers {
     unsafe {

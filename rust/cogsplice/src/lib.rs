@@ -8,12 +8,12 @@
 //! use cogsplice::Network;
 //! # fn main() -> Result<(), cogsplice::Refusal> {
 //! let network = Network::from_links(6, &[(0, 3), (0, 4), (1, 3), (1, 4), (2, 3), (2, 4), (4, 5), (5, 5)])?;
-//! let finding = network.finding()?;
+//! let finding = network.finding();
 //! assert_eq!((finding.x, finding.y, finding.equal_level), (2, 3, 2));
 //! assert_eq!(finding.pair.s, [0, 1, 2]);
 //! assert_eq!(finding.pair.t, [3, 4]);
 //! assert_eq!(finding.pair.edges, 6);
-//! let layers = network.layers()?;
+//! let layers = network.layers();
 //! assert_eq!(layers.count(), 2);
 //! assert_eq!(layers.links(2).collect::<Vec<_>>(), [(4, 5), (5, 5)]);
 //! # Ok(())

@@ -27,7 +27,8 @@ pub struct Pair {
 
 /// The non-empty `[x,y]`-core with the greatest `x * y`, among equal products that of the smallest `x`.
 ///
-/// No pair of groups is more than twice as dense. `==` compares all of a finding, [`Finding::equals`] what makes two findings equal.
+/// No pair of groups is more than twice as dense. In a quiet month, when the network has no link, all numbers are 0 and both groups are
+/// empty. `==` compares all of a finding, [`Finding::equals`] what makes two findings equal.
 #[derive(Clone, Debug, PartialEq, Eq)]
 pub struct Finding {
     pub x: usize,
@@ -41,6 +42,11 @@ impl Finding {
     pub fn equals(&self, other: &Finding) -> bool {
         lent::equal_findings(self.x, self.y, other.x, other.y)
     }
+
+    /// Whether the month was quiet: `x * y` is 0 exactly when the network has no link.
+    pub fn is_quiet(&self) -> bool {
+        self.x * self.y == 0
+    }
 }
 
 /// The four lines of the report program, without the end of the last.
@@ -48,7 +54,9 @@ impl Finding {
 /// ```
 /// let star = cogsplice::Network::from_links(4, &[(0, 1), (0, 2), (0, 3)]).unwrap();
 /// let report = "x 3 y 1 equal 1\nlinks 3 vouchers 1 vouched 3\nS 0\nT 1 2 3";
-/// assert_eq!(star.finding().unwrap().to_string(), report);
+/// assert_eq!(star.finding().to_string(), report);
+/// let quiet = cogsplice::Network::from_links(4, &[]).unwrap();
+/// assert_eq!(quiet.finding().to_string(), "x 0 y 0 equal 0\nlinks 0 vouchers 0 vouched 0\nS\nT");
 /// ```
 impl fmt::Display for Finding {
     fn fmt(&self, f: &mut fmt::Formatter<'_>) -> fmt::Result {
@@ -100,14 +108,18 @@ impl Index {
 }
 
 impl Network {
-    /// The network of a file's bytes. Refused by 1 to 8.
+    /// The network of a file's bytes. Zero bytes are the network without members and links, whose file they count as. Refused by 1 to 8.
     ///
     /// ```
     /// use cogsplice::{Network, Refusal};
     /// assert_eq!(Network::from_file(b"VCH\x01\x00\x02\x00\x00\x00".to_vec()).unwrap().members(), 2);
     /// assert_eq!(Network::from_file(b"VCH\x03\x00\x02\x00\x00\x00".to_vec()), Err(Refusal::Version));
+    /// assert_eq!(Network::from_file(Vec::new()), Network::from_links(0, &[]));
     /// ```
     pub fn from_file(file: Vec<u8>) -> Result<Network, Refusal> {
+        if file.is_empty() {
+            return Network::from_links(0, &[]);
+        }
         let numbers = lent::check(&file);
         Refusal::of(numbers.refusal, numbers.link)?;
         Ok(Network {
@@ -134,7 +146,11 @@ impl Network {
         Network::from_file(file)
     }
 
-    /// The file's bytes.
+    /// The file's bytes, also where the network was made from none.
+    ///
+    /// ```
+    /// assert_eq!(cogsplice::Network::from_file(Vec::new()).unwrap().file(), b"VCH\x01\x00\x00\x00\x00\x00");
+    /// ```
     pub fn file(&self) -> &[u8] {
         &self.file
     }
@@ -266,21 +282,22 @@ impl Network {
         numbers.level
     }
 
-    /// The finding. Refused by 13 where the network has no link.
+    /// The finding; zeros and empty groups where the network has no link.
     ///
     /// ```
-    /// use cogsplice::{Network, Refusal};
+    /// use cogsplice::Network;
     /// let star = Network::from_links(4, &[(0, 1), (0, 2), (0, 3)]).unwrap();
-    /// let finding = star.finding().unwrap();
+    /// let finding = star.finding();
     /// assert_eq!((finding.x, finding.y), (3, 1));
-    /// assert!(finding.equals(&star.ordered().finding().unwrap()));
-    /// assert_eq!(Network::from_links(4, &[]).unwrap().finding().unwrap_err(), Refusal::Linkless);
+    /// assert!(finding.equals(&star.ordered().finding()));
+    /// assert!(!finding.is_quiet());
+    /// assert!(Network::from_links(4, &[]).unwrap().finding().is_quiet());
     /// ```
-    pub fn finding(&self) -> Result<Finding, Refusal> {
+    pub fn finding(&self) -> Finding {
         let (mut s, mut t, mut work) = self.tables();
         let numbers = lent::finding(&self.file, &mut s, &mut t, &mut work);
-        Refusal::of(numbers.refusal, numbers.link)?;
-        Ok(Finding {
+        accepted(numbers.refusal);
+        Finding {
             x: numbers.x,
             y: numbers.y,
             equal_level: numbers.equal,
@@ -289,26 +306,26 @@ impl Network {
                 t: members_of(&t),
                 edges: numbers.edges,
             },
-        })
+        }
     }
 
-    /// The layers. Refused by 13 where the network has no link.
+    /// The layers; none where the network has no link.
     ///
     /// ```
-    /// use cogsplice::{Network, Refusal};
+    /// use cogsplice::Network;
     /// let star = Network::from_links(4, &[(0, 1), (0, 2), (0, 3)]).unwrap();
-    /// assert_eq!(star.layers().unwrap().count(), 1);
-    /// assert_eq!(Network::from_links(4, &[]).unwrap().layers().unwrap_err(), Refusal::Linkless);
+    /// assert_eq!(star.layers().count(), 1);
+    /// assert_eq!(Network::from_links(4, &[]).unwrap().layers().count(), 0);
     /// ```
-    pub fn layers(&self) -> Result<Layers, Refusal> {
+    pub fn layers(&self) -> Layers {
         let mut of_links = vec![0; self.links];
         let numbers = lent::layers(&self.file, &mut of_links, &mut self.work());
-        Refusal::of(numbers.refusal, numbers.link)?;
-        Ok(Layers {
+        accepted(numbers.refusal);
+        Layers {
             count: numbers.layers,
             links: self.links().collect(),
             of_links,
-        })
+        }
     }
 
     fn work(&self) -> Vec<u16> {

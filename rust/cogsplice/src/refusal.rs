@@ -1,7 +1,7 @@
 use std::error::Error;
 use std::fmt;
 
-/// Why a call was refused. The lowest number that applies is given.
+/// Why a call was refused. The lowest number that applies is given. 13 is retired: it is never given again, nor used for something else.
 ///
 /// ```
 /// use cogsplice::{Network, Refusal};
@@ -13,7 +13,7 @@ use std::fmt;
 /// ```
 #[derive(Clone, Copy, Debug, PartialEq, Eq)]
 pub enum Refusal {
-    /// 1: the file is shorter than 9 bytes.
+    /// 1: the file has 1 to 8 bytes.
     Short,
     /// 2: its mark is not `VCH`.
     Mark,
@@ -37,19 +37,17 @@ pub enum Refusal {
     Group,
     /// 12: a level was asked for 0.
     Zero,
-    /// 13: a finding or layers were asked for, and the file has no link.
-    Linkless,
     /// 14: a row's start is above the next start, or that is above the length of the rows table.
     Row,
 }
 
 impl Refusal {
     /// All refusals in the order of their numbers, those that name a link with this one.
-    fn all(link: usize) -> [Refusal; 14] {
+    fn all(link: usize) -> [Refusal; 13] {
         use Refusal::*;
         let (end, repeat) = (End { link }, Repeat { link });
         [
-            Short, Mark, Version, Members, Links, Length, end, repeat, Table, Member, Group, Zero, Linkless, Row,
+            Short, Mark, Version, Members, Links, Length, end, repeat, Table, Member, Group, Zero, Row,
         ]
     }
 
@@ -65,7 +63,7 @@ impl Refusal {
     /// The refusal's number, the link that it names, and its words.
     fn told(self) -> (u16, Option<usize>, &'static str) {
         match self {
-            Refusal::Short => (1, None, "the file is shorter than 9 bytes"),
+            Refusal::Short => (1, None, "the file has 1 to 8 bytes"),
             Refusal::Mark => (2, None, "the mark is not VCH"),
             Refusal::Version => (3, None, "the version is not 1"),
             Refusal::Members => (4, None, "n is above 2048"),
@@ -77,12 +75,11 @@ impl Refusal {
             Refusal::Member => (10, None, "a member is not below n"),
             Refusal::Group => (11, None, "a byte of a group is neither 0 nor 1"),
             Refusal::Zero => (12, None, "a level was asked for 0"),
-            Refusal::Linkless => (13, None, "the file has no link"),
             Refusal::Row => (14, None, "a row does not lie in its table"),
         }
     }
 
-    /// The refusal's number, 1 to 14.
+    /// The refusal's number, 1 to 14 without 13.
     pub fn number(self) -> u16 {
         self.told().0
     }

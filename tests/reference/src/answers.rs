@@ -5,7 +5,7 @@ use cogsplice::lent::{
 };
 
 /// The order in which refusals are tested: the first that applies is given.
-pub const ORDER: [u16; 14] = [1, 2, 3, 4, 5, 6, 7, 8, 9, 10, 11, 12, 13, 14];
+pub const ORDER: [u16; 13] = [1, 2, 3, 4, 5, 6, 7, 8, 9, 10, 11, 12, 14];
 
 /// The number that is given where these apply, or 0 where none does.
 pub fn first_of(applying: &[u16]) -> u16 {

@@ -76,7 +76,7 @@ fn raise(non_empty: impl Fn(usize) -> bool) -> usize {
     level
 }
 
-/// x and y of the finding: the greatest x × y with a non-empty core, among equal products the smallest x.
+/// x and y of the finding: the greatest x × y with a non-empty core, among equal products the smallest x; 0 and 0 without links.
 ///
 /// No core is non-empty with an x above every member's number of links as a voucher: a member of S has x links.
 pub(crate) fn finding_of(network: &Network) -> (usize, usize) {
@@ -99,6 +99,14 @@ pub(crate) fn finding_of(network: &Network) -> (usize, usize) {
     best
 }
 
+/// S and T of the finding: those of its core, and nobody in a quiet month, when there is no link.
+fn groups_of(network: &Network, (x, y): (usize, usize)) -> (Group, Group) {
+    if network.links.is_empty() {
+        return (vec![false; network.n], vec![false; network.n]);
+    }
+    core_of(network, x, y)
+}
+
 /// Writes a group to the first n bytes of a table: 1 in, 0 out.
 fn put(group: &Group, table: &mut [u8]) {
     for (byte, &inside) in table.iter_mut().zip(group) {
@@ -118,7 +126,7 @@ fn try_core(
     t: &mut [u8],
     work: usize,
 ) -> Result<TotalsNumbers, Refusal> {
-    let network = read_with(file, &[s.len(), t.len()], work, |_| NO_OTHER)?;
+    let network = read_with(file, &[s.len(), t.len()], work, NO_OTHER)?;
     let (core_s, core_t) = core_of(&network, x as usize, y as usize);
     put(&core_s, s);
     put(&core_t, t);
@@ -133,12 +141,12 @@ fn read_with(
     file: &[u8],
     groups: &[usize],
     work: usize,
-    other: impl Fn(&Network) -> (u16, bool),
+    other: (u16, bool),
 ) -> Result<Network, Refusal> {
     let network = read(file)?;
     let mut tables: Vec<_> = groups.iter().map(|&length| (length, network.n)).collect();
     tables.push((work, work_length(network.n, network.links.len())));
-    refuse(&[(9, too_short(&tables)), other(&network)])?;
+    refuse(&[(9, too_short(&tables)), other])?;
     Ok(network)
 }
 
@@ -168,7 +176,7 @@ fn level_by(
     zero: bool,
     non_empty: impl Fn(&Network, usize) -> bool,
 ) -> LevelNumbers {
-    match read_with(file, &[], work, |_| (12, zero)) {
+    match read_with(file, &[], work, (12, zero)) {
         Err(refusal) => Refused::refused(refusal),
         Ok(network) => LevelNumbers {
             refusal: 0,
@@ -178,7 +186,7 @@ fn level_by(
     }
 }
 
-/// The finding: writes S and T of the best core.
+/// The finding: writes S and T of the best core, or empty groups in a quiet month.
 pub fn finding(file: &[u8], s: &mut [u8], t: &mut [u8], work: usize) -> FindingNumbers {
     try_finding(file, s, t, work).unwrap_or_else(Refused::refused)
 }
@@ -189,20 +197,17 @@ fn try_finding(
     t: &mut [u8],
     work: usize,
 ) -> Result<FindingNumbers, Refusal> {
-    let lengths = [s.len(), t.len()];
-    let network = read_with(file, &lengths, work, |network| {
-        (13, network.links.is_empty())
-    })?;
+    let network = read_with(file, &[s.len(), t.len()], work, NO_OTHER)?;
     let (x, y) = finding_of(&network);
-    let (core_s, core_t) = core_of(&network, x, y);
-    put(&core_s, s);
-    put(&core_t, t);
+    let (best_s, best_t) = groups_of(&network, (x, y));
+    put(&best_s, s);
+    put(&best_t, t);
     let TotalsNumbers {
         edges,
         sources,
         targets,
         ..
-    } = totals(&network, &core_s, &core_t);
+    } = totals(&network, &best_s, &best_t);
     let equal = raise(|k| has_core(&network, k, k));
     Ok(FindingNumbers {
         refusal: 0,

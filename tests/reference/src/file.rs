@@ -10,9 +10,6 @@ pub const MEMBERS: usize = 2048;
 /// The most links of a network.
 pub const LINKS: usize = 8192;
 
-/// What a file of no bytes is refused with.
-const EMPTY: u16 = 1;
-
 /// The length of a file with m links.
 pub fn file_length(m: usize) -> usize {
     9 + 4 * m
@@ -23,8 +20,11 @@ fn number_at(file: &[u8], offset: usize) -> usize {
     file[offset] as usize + 256 * file[offset + 1] as usize
 }
 
-/// The network of an accepted file, or the first of the refusals 1 to 8.
+/// The network of an accepted file, or the first of the refusals 1 to 8. Zero bytes count as the file with n 0 and m 0.
 pub fn read(file: &[u8]) -> Result<Network, Refusal> {
+    if file.is_empty() {
+        return Ok(Network::new(0, &[]));
+    }
     let (n, m) = read_head(file)?;
     let links: Vec<Link> = (0..m)
         .map(|i| (number_at(file, 9 + 4 * i), number_at(file, 11 + 4 * i)))
@@ -45,10 +45,9 @@ pub fn read(file: &[u8]) -> Result<Network, Refusal> {
     Ok(Network { n, links })
 }
 
-/// n and m, or the first of the refusals 1 to 6.
+/// n and m of a file that has bytes, or the first of the refusals 1 to 6.
 fn read_head(file: &[u8]) -> Result<(usize, usize), Refusal> {
-    let empty = file.is_empty();
-    refuse(&[(EMPTY, empty), (1, !empty && file.len() < 9)])?;
+    refuse(&[(1, file.len() < 9)])?;
     let (n, m) = (number_at(file, 5), number_at(file, 7));
     refuse(&[
         (2, file[0..3] != *b"VCH"),

@@ -41,7 +41,7 @@ fn try_layers(file: &[u8], layers: &mut [u16], work: usize) -> Result<LayersNumb
     let network = read(file)?;
     let m = network.links.len();
     let short = too_short(&[(layers.len(), m), (work, work_length(network.n, m))]);
-    refuse(&[(9, short), (13, m == 0)])?;
+    refuse(&[(9, short)])?;
     let (of_links, count) = layers_of(&network);
     layers[..m].copy_from_slice(&of_links);
     Ok(LayersNumbers {

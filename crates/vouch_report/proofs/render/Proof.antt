@@ -48,7 +48,7 @@ slice-aggregate-put-report-2 : tie.Need-slice-aggregate-put-report-2
 slice-aggregate-put-report-2 c = search needs
 
 order-of-requires : tie.Need-order-of-requires
-order-of-requires c κs = omega (arith, found-sound (refl, refl, refl) (c .before .before .before .before .before .before .before .before .before .finding .ensures) _ (c .before .before .before .before .answer .given .1) .header)
+order-of-requires c κs = search needs
 
 put-report-requires : tie.Need-put-report-requires
 put-report-requires c κs =

@@ -69,7 +69,9 @@ fn main() {
     write("tie", &network(6, &[(0, 1), (0, 2), (3, 5), (4, 5)]));
     write("planted-ring", &planted_ring());
     write("two-rings", &two_rings());
+    write("quiet", &network(5, &[]));
     write("empty", &network(0, &[]));
+    write("nothing", &[]);
     write("damaged-short", &w[..8]);
     write("damaged-mark", &changed(2, b'K'));
     write("damaged-version", &changed(3, 3));

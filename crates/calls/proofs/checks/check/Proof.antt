@@ -1,9 +1,7 @@
 -- `check` tells the refusal of the file, or n and m.
 use mathlib.Core.Path.{_≡_, refl}
-use native.Mathlib.Omega.{arith}
 use Rattle.network.specs.File.{none, fileRefusal}
-use Rattle.network.specs.Accepted.{Accepted}
-use Rattle.network.proofs.Accepted.{accepted, found-none}
+use Rattle.network.proofs.Accepted.{found-none}
 use Rattle.network.specs.Calls as call
 use Rattle.network.proofs.Answers.{call-refused}
 use borrow.Author.Needs.{needs}
@@ -20,15 +18,11 @@ returns c = call-refused (c .before .before .file-refusal .ensures) (c .if1 .tak
 gives-none : (c : tie.Else1) → fileRefusal (c .before .before .before .before .args .file .now) ≡ none
 gives-none c = found-none _ (c .before .before .file-refusal .ensures) (c .if1 .left)
 
--- so it is long enough
-accept : (c : tie.Else1) → Accepted (c .before .before .before .before .args .file .now)
-accept c = accepted _ .0 (gives-none c)
-
 order-of-requires : tie.Need-order-of-requires
-order-of-requires c κs = omega (arith, accept c .sound .header .long)
+order-of-requires c κs = search needs
 
 size-of-requires : tie.Need-size-of-requires
-size-of-requires c κs = omega (arith, accept (c .before) .sound .header .long)
+size-of-requires c κs = search needs
 
 returns-2 : tie.Need-returns-2
 returns-2 c = call.accepted (c .before .order-of .result, c .size-of .result) (gives-none (c .before .before)) refl (c .before .order-of .ensures .0, c .size-of .ensures .0)

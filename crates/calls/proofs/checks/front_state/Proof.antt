@@ -45,7 +45,7 @@ header : (c : tie.Else1) → Header (c .before .before .before .args .file .now)
 header c = c .before .header-number .ensures .accepted (c .if1 .left)
 
 size-of-requires : tie.Need-size-of-requires
-size-of-requires c κs = omega (arith, header c .long)
+size-of-requires c κs = search needs
 
 first-outside-requires : tie.Need-first-outside-requires
 first-outside-requires c κs = header (c .before)

@@ -59,7 +59,7 @@ edge c i l = sorted-nth (precedes-strict (net c)) (c .before .before .before .pr
 -- which can be read from the file
 readable : (c : tie.After-size-of Inv-loop μ-loop) (i r : ℕ) → i < net c .size → r ≡ getD (c .before .before .before .args .order .now) i 0
     → Holds (c .before .before .before .args .file .now) r
-readable c i r l p = omega (arith, edge c i l, edgeAt-lt (net c) i l, c .before .before .before .pre .0 .header)
+readable c i r l p = (c .before .before .before .pre .0 .header, omega (arith, edge c i l, edgeAt-lt (net c) i l))
 
 -- i is a place of the order
 inside : (c : tie.In-loop Inv-loop μ-loop) → c .before .loop .i < net (c .before .before) .size

@@ -26,7 +26,7 @@ sound : (c : tie.Else1) → Sound (c .before .before .before .before .before .be
 sound c = found-accepted _ (c .before .before .before .before .before .file-state .ensures .0) (c .if1 .left) .sound
 
 size-of-requires : tie.Need-size-of-requires
-size-of-requires c κs = omega (arith, sound (c .before) .header)
+size-of-requires c κs = search needs
 
 count-up-requires : tie.Need-count-up-requires
 count-up-requires c κs =

@@ -37,7 +37,7 @@ sound : (c : tie.Else1) → Sound (start c .args .file .now)
 sound c = found-accepted _ (c .before .before .file-refusal .ensures) (c .if1 .left) .sound
 
 order-of-requires : tie.Need-order-of-requires
-order-of-requires c κs = omega (arith, sound c .header)
+order-of-requires c κs = search needs
 
 plain-requires : tie.Need-plain-requires
 plain-requires c κs = search needs

@@ -66,7 +66,7 @@ edge c =
 readable : (c : tie.After-wide16 Inv-loop μ-loop) → Holds (start (c .before .before .before .before) .args .file .now) (c .wide16 .result)
 readable c =
     let b = c .before .before .before .before in
-    omega (arith, edge c, edgeAt-lt (net b) (c .before .before .before .loop .i) (inside (c .before .before)), start b .pre .0 .header, c .wide16 .ensures)
+    (start b .pre .0 .header, omega (arith, edge c, edgeAt-lt (net b) (c .before .before .before .loop .i) (inside (c .before .before))))
 
 end-at-requires : tie.Need-end-at-requires Inv-loop μ-loop
 end-at-requires c κs = readable c

@@ -1,16 +1,14 @@
 -- `write` refuses by the file, then by a short output; else it stores the file where its edges ascend, and where not the file in the order that
 -- the check left.
-use Prim.Native.Nat.{ℕ, _<_, _≤_}
-use mathlib.Core.Path.{_≡_, refl, sym, ap, _∙_}
+use Prim.Native.Nat.{_≤_}
+use mathlib.Core.Path.{_≡_, refl, _∙_}
 use native.Mathlib.Omega.{arith}
-use lib.ListN.{length, getD}
-use lib.Seq.{sets}
+use lib.ListN.{length}
 use Rattle.network.specs.File.{linkAt, graphOf, none, fileRefusal}
 use Rattle.network.specs.Accepted.{Accepted}
 use Rattle.network.specs.Calls as call
 use Rattle.network.proofs.Accepted.{found-none, found-accepted}
 use Rattle.network.proofs.Answers.{call-refused, call-plain}
-use Rattle.calls.proofs.Itself.{written-itself}
 use Rattle.calls.proofs.Writer.{write-file, write-short, write-none, rewritten}
 use borrow.Author.Needs.{needs}
 use Rattle.calls.proofs.writes.write.Statement.{statement}
@@ -40,7 +38,7 @@ accept : (c : tie.Else1) → Accepted (start c .args .file .now)
 accept c = found-accepted _ (c .before .before .before .before .file-state .ensures .0) (c .if1 .left)
 
 size-of-requires : tie.Need-size-of-requires
-size-of-requires c κs = omega (arith, accept c .sound .header)
+size-of-requires c κs = search needs
 
 link-at-requires : tie.Need-link-at-requires
 link-at-requires c κs = search needs
@@ -59,24 +57,22 @@ returns-2 c =
 long : (c : tie.Else2) → linkAt (graphOf (start (c .before .before .before) .args .file .now) .size) ≤ length (start (c .before .before .before) .args .out .now)
 long c = omega (arith, c .before .before .size-of .ensures, c .before .link-at .ensures, c .if2 .left)
 
-copy-requires : tie.Need-copy-requires
-copy-requires c κs = let d = c .before .before in omega (arith, long d, accept (d .before .before .before) .sound .header)
+put-itself-requires : tie.Need-put-itself-requires
+put-itself-requires c κs =
+    let d = c .before .before in
+    let b = d .before .before .before in
+    (accept b .sound .header, (b .before .before .before .before .file-state .ensures .1 .0 (c .before .if3 .taken), long d))
 
 same-length : tie.Need-same-length
 same-length c = search needs
-
--- what is in the file is bytes
-bytes : (c : tie.Else1) (i : ℕ) → getD (start c .args .file .now) i 0 < 256
-bytes c i = omega (arith, c .before .before .before .before .before .before .before .shared-slice-known .given i)
 
 returns-3 : tie.Need-returns-3
 returns-3 c =
     let t = c .before .before .before .before in
     let d = t .before in
     let b = d .before .before .before in
-    let itself = written-itself (start b .args .file .now) (bytes b) (accept b .sound .header) (b .before .before .before .before .file-state .ensures .1 .0 (t .if3 .taken)) in
     call.accepted _ (write-none (start b .args .file .now) _ (gives-none b) (long d)) refl
-    (rewritten _ (accept b) (long d) (d .before .before .size-of .ensures .0) (c .before .before .copy .ensures ∙ ap (sets (start b .args .out .now) 0) (sym itself)))
+    (rewritten _ (accept b) (long d) (d .before .before .size-of .ensures .0) (c .before .before .put-itself .ensures))
 
 slice-aggregate-put-file : tie.Need-slice-aggregate-put-file
 slice-aggregate-put-file c = search needs
@@ -110,7 +106,7 @@ write-spec =
     link-at-requires
     plain-requires
     returns-2
-    copy-requires
+    put-itself-requires
     same-length
     returns-3
     slice-aggregate-put-file

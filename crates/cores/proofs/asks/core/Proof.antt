@@ -36,7 +36,7 @@ returns : tie.Need-returns
 returns c =
     let a = c .before .before .before .before .before .before .before .before .before .before .before .args in
     let (e, n, k) = entry-refused _ _ _ _ _ _ (c .before .before .before .before .before .enter .ensures) _ (c .before .entry .given .1) in
-    call-kept (e ∙ core-entry _ _ _ _) n (ap (λ w. a .s .now ∷ a .t .now ∷ w ∷ []) k)
+    call-kept (e ∙ core-entry _ _ _ _ _ refl) n (ap (λ w. a .s .now ∷ a .t .now ∷ w ∷ []) k)
 
 same-length-2 : tie.Need-same-length-2
 same-length-2 c = search needs
@@ -52,7 +52,7 @@ returns-2 c =
     let b = c .before .before .before .before .before .before .before .before .before .before .before .before in
     let (e, r) = entry-ready _ _ _ _ _ _ (b .before .before .before .before .before .enter .ensures) _ _ (b .before .entry2 .given .1) in
     let i = c .before .before .before .before .before .before .core-in .ensures in
-    call.accepted _ (sym (core-entry _ _ _ _) ∙ e) refl
+    call.accepted _ (sym (core-entry _ _ _ _ _ refl) ∙ e) refl
     (rw (c .before .before .before .before .before .before .before .before .before .before .before .wide16 .ensures .0, c .before .before .before .before .before .before .before .before .before .before .wide162 .ensures .0) at (i .core _ (r .tabled)), entered-groups r (i .kept) (i .sources) (i .targets) (i .counted _ (r .tabled)))
 
 pub core-spec : {M : Type 1} → statement M

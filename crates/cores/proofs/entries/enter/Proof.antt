@@ -38,10 +38,10 @@ accept : (c : tie.Else1) → Accepted (start c .args .file .now)
 accept c = found-accepted _ (c .before .before .file-refusal .ensures) (c .if1 .left)
 
 order-of-requires : tie.Need-order-of-requires
-order-of-requires c κs = omega (arith, accept c .sound .header)
+order-of-requires c κs = search needs
 
 size-of-requires : tie.Need-size-of-requires
-size-of-requires c κs = omega (arith, accept (c .before) .sound .header)
+size-of-requires c κs = search needs
 
 later-number-requires : tie.Need-later-number-requires
 later-number-requires c κs = let h = accept (c .before .before) .sound .header in omega (arith, c .before .order-of .ensures, c .size-of .ensures)

@@ -21,7 +21,7 @@ returns-3 : tie.Need-returns-3
 returns-3 c = let a = c .before .before .before .before .args in sym (rw (lt-ltb (a .work) (workLength (a .n) (a .m)) (rw (c .before .work-length .ensures) at (c .if3 .taken)), or-true))
 
 -- where the tables are long enough, what is asked is left
-long : (c : tie.Else3) → let a = c .before .before .before .before .args in laterRefusal (a .ask) (a .n) (a .m) (a .s) (a .t) (a .work) ≡ askRefusal (a .ask) (a .m)
+long : (c : tie.Else3) → let a = c .before .before .before .before .args in laterRefusal (a .ask) (a .n) (a .m) (a .s) (a .t) (a .work) ≡ askRefusal (a .ask)
 long c =
     let a = c .before .before .before .before .args in
     rw (le-ltb (a .s) (a .n) (c .before .before .before .if1 .left), le-ltb (a .t) (a .n) (c .before .before .if2 .left), le-ltb (a .work) (workLength (a .n) (a .m)) (rw (c .before .work-length .ensures) at (c .if3 .left)))
@@ -32,23 +32,14 @@ enum-told c = search needs
 enum-known-ask : tie.Need-enum-known-ask
 enum-known-ask c = search needs
 
-enum-told-2 : tie.Need-enum-told-2
-enum-told-2 c = search needs
-
 returns-4 : tie.Need-returns-4
-returns-4 c = let m = c .before .before .before .before .before .before .args .m in sym (long (c .before .before) ∙ ap (λ k. askRefusal k m) (c .enum-told .given .1))
+returns-4 c = sym (long (c .before .before) ∙ ap askRefusal (c .enum-told .given .1))
 
 returns-5 : tie.Need-returns-5
-returns-5 c = let m = c .before .before .before .before .before .before .before .before .args .m in sym (long (c .before .before .before .before) ∙ ap (λ k. askRefusal k m) (c .before .before .ask .given .1) ∙ rw (eq-eqb _ 0 (c .if4 .taken)))
+returns-5 c = sym (long (c .before .before .before .before) ∙ ap askRefusal (c .before .before .ask .given .1) ∙ rw (eq-eqb _ 0 (c .if4 .taken)))
 
 returns-6 : tie.Need-returns-6
-returns-6 c = let m = c .before .before .before .before .before .before .before .before .args .m in sym (long (c .before .before .before .before) ∙ ap (λ k. askRefusal k m) (c .before .before .ask .given .1) ∙ rw (ne-eqb _ 0 (c .if4 .left)))
-
-returns-7 : tie.Need-returns-7
-returns-7 c = let m = c .before .before .before .before .before .before .before .args .m in sym (long (c .before .before .before) ∙ ap (λ k. askRefusal k m) (c .before .enum-told2 .given .1) ∙ rw (eq-eqb _ 0 (c .if5 .taken)))
-
-returns-8 : tie.Need-returns-8
-returns-8 c = let m = c .before .before .before .before .before .before .before .args .m in sym (long (c .before .before .before) ∙ ap (λ k. askRefusal k m) (c .before .enum-told2 .given .1) ∙ rw (ne-eqb _ 0 (c .if5 .left)))
+returns-6 c = sym (long (c .before .before .before .before) ∙ ap askRefusal (c .before .before .ask .given .1) ∙ rw (ne-eqb _ 0 (c .if4 .left)))
 
 pub later-number-spec : {M : Type 1} → statement M
 later-number-spec =
@@ -60,9 +51,6 @@ later-number-spec =
     returns-3
     enum-told
     enum-known-ask
-    enum-told-2
     returns-4
     returns-5
-    returns-6
-    returns-7
-    returns-8)
+    returns-6)

@@ -1,6 +1,6 @@
 -- `finding` is refused on the way in, or finds in the network that is laid into the work table.
-use mathlib.Core.Path.{sym, _∙_}
-use Rattle.cores.proofs.WayIn.{finding-entry, entry-refused, entry-ready, entered-held}
+use mathlib.Core.Path.{refl, sym, _∙_}
+use Rattle.cores.proofs.WayIn.{core-entry, entry-refused, entry-ready, entered-held}
 use Rattle.finding.proofs.FindingCalls.{finding-refused, finding-done}
 use borrow.Author.Needs.{needs}
 use Rattle.finding.proofs.findings.finding.Statement.{statement}
@@ -27,7 +27,7 @@ same-length c = search needs
 returns : tie.Need-returns
 returns c =
     let (e, n, k) = entry-refused _ _ _ _ _ _ (c .before .before .before .before .before .enter .ensures) _ (c .before .entry .given .1) in
-    finding-refused (e ∙ finding-entry _ _ _ _) n k
+    finding-refused (e ∙ core-entry _ _ _ _ _ refl) n k
 
 same-length-2 : tie.Need-same-length-2
 same-length-2 c = search needs
@@ -42,7 +42,7 @@ returns-2 : tie.Need-returns-2
 returns-2 c =
     let b = c .before .before .before .before .before .before .before .before .before .before in
     let (e, r) = entry-ready _ _ _ _ _ _ (b .before .before .before .before .before .enter .ensures) _ _ (b .before .entry2 .given .1) in
-    finding-done (sym (finding-entry _ _ _ _) ∙ e) r (c .before .before .before .before .before .before .find-in .ensures)
+    finding-done (sym (core-entry _ _ _ _ _ refl) ∙ e) r (c .before .before .before .before .before .before .find-in .ensures)
 
 pub finding-spec : {M : Type 1} → statement M
 finding-spec =

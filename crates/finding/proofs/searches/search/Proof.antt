@@ -28,7 +28,7 @@ abbrev μ-search : tie.MeasureT-search
 μ-search work₀ order size k best₀ side₀ work best side = sidesLeft side
 
 search-holds : tie.Need-search-holds Inv-loop μ-loop Inv-search μ-search
-search-holds c = search-begins (now (c .before .args .work)) (c .before .pre .1 .1)
+search-holds c = let p = c .before .pre in search-begins (now (c .before .args .work)) (p .1 .1 .0) (p .1 .1 .1)
 
 -- the table holds its graph up to the turn of a side
 held-at : (c : tie.At-search Inv-loop μ-loop Inv-search μ-search) → let a = c .before .before .args in Held (a .order) (a .size) (c .search .work)
@@ -53,8 +53,7 @@ try-one-requires c κs =
     let p = s .before .before .pre in
     let inv = l .loop .inv in
     let (longest, small) = l .before .longest-of .ensures in
-    let range = inv .in-range (omega (arith, inv .positive)) in
-    (p .0, (held-kept (held-at s) (inv .kept), (longest-kept (held-rows (held-at s)) (inv .kept) longest, (small, ((inv .positive, omega arith), range)))))
+    (p .0, (held-kept (held-at s) (inv .kept), (longest-kept (held-rows (held-at s)) (inv .kept) longest, (small, ((inv .positive, omega arith), inv .in-range)))))
 
 add-fixed : tie.Need-add-fixed Inv-loop μ-loop Inv-search μ-search
 add-fixed c = search needs

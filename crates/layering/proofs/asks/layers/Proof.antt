@@ -36,10 +36,10 @@ entered : (c : tie.Else1)
 entered c = layers-accepted _ _ _ (gives-none c)
 
 size-of-requires : tie.Need-size-of-requires
-size-of-requires c κs = omega (arith, entered c .0 .sound .header)
+size-of-requires c κs = search needs
 
 order-of-requires : tie.Need-order-of-requires
-order-of-requires c κs = omega (arith, entered (c .before) .0 .sound .header)
+order-of-requires c κs = search needs
 
 work-length-requires : tie.Need-work-length-requires
 work-length-requires c κs = search needs

@@ -1,12 +1,11 @@
--- `layers_refusal` is the refusal of the file, then 9 where a table is short, then 13 where there is no link.
+-- `layers_refusal` is the refusal of the file, then 9 where a table is short.
 use Prim.Native.Nat.{_≤_}
-use mathlib.Core.Path.{_≡_, sym, _∙_}
+use mathlib.Core.Path.{_≡_, _∙_}
 use native.Mathlib.Omega.{arith}
 use Rattle.network.specs.File.{graphOf, none, fileRefusal}
 use Rattle.network.specs.Refusals.{workLength}
-use Rattle.network.specs.Accepted.{Header}
-use Rattle.network.proofs.Accepted.{found-none, found-accepted}
-use Rattle.layering.proofs.LayersCalls.{layers-file, layers-short, layers-short-work, layers-linkless, layers-none}
+use Rattle.network.proofs.Accepted.{found-none}
+use Rattle.layering.proofs.LayersCalls.{layers-file, layers-short, layers-short-work, layers-none}
 use borrow.Author.Needs.{needs}
 use Rattle.layering.proofs.asks.layers_refusal.Statement.{statement}
 use Rattle.layering.proofs.asks.layers_refusal.Tie as tie
@@ -21,16 +20,12 @@ returns c = layers-file _ _ _ (c .before .before .file-refusal .ensures) (c .if1
 abbrev start : tie.Else1 → tie.Start
 start c = c .before .before .before .before
 
--- there is no refusal of the file,
+-- there is no refusal of the file
 gives-none : (c : tie.Else1) → fileRefusal (start c .args .file .now) ≡ none
 gives-none c = found-none _ (c .before .before .file-refusal .ensures) (c .if1 .left)
 
--- so its header can be read
-header : (c : tie.Else1) → Header (start c .args .file .now)
-header c = found-accepted _ (c .before .before .file-refusal .ensures) (c .if1 .left) .sound .header
-
 size-of-requires : tie.Need-size-of-requires
-size-of-requires c κs = omega (arith, header c)
+size-of-requires c κs = search needs
 
 plain-requires : tie.Need-plain-requires
 plain-requires c κs = search needs
@@ -45,7 +40,7 @@ long : (c : tie.Else2) → graphOf (start (c .before .before) .args .file .now) 
 long c = omega (arith, c .before .size-of .ensures, c .if2 .left)
 
 order-of-requires : tie.Need-order-of-requires
-order-of-requires c κs = omega (arith, header (c .before .before))
+order-of-requires c κs = search needs
 
 work-length-requires : tie.Need-work-length-requires
 work-length-requires c κs = search needs
@@ -71,23 +66,14 @@ long-work : (c : tie.Else3)
     workLength (g .order) (g .size) ≤ s .args .work
 long-work c = omega (arith, needed (c .before), c .if3 .left)
 
-plain-requires-3 : tie.Need-plain-requires-3
-plain-requires-3 c κs = search needs
-
-returns-4 : tie.Need-returns-4
-returns-4 c =
-    let e = c .before .before in
-    let d = e .before .before .before in
-    c .plain3 .ensures ∙ layers-linkless _ _ _ (gives-none (d .before .before)) (long d) (long-work e) (sym (d .before .size-of .ensures .0) ∙ c .before .if4 .taken)
-
 none-requires : tie.Need-none-requires
 none-requires c κs = search needs
 
-returns-5 : tie.Need-returns-5
-returns-5 c =
-    let e = c .before .before in
+returns-4 : tie.Need-returns-4
+returns-4 c =
+    let e = c .before in
     let d = e .before .before .before in
-    c .none .ensures ∙ layers-none _ _ _ (gives-none (d .before .before)) (long d) (long-work e) (λ z. c .before .if4 .left (d .before .size-of .ensures .0 ∙ z))
+    c .none .ensures ∙ layers-none _ _ _ (gives-none (d .before .before)) (long d) (long-work e)
 
 pub layers-refusal-spec : {M : Type 1} → statement M
 layers-refusal-spec =
@@ -102,7 +88,5 @@ layers-refusal-spec =
     work-length-requires
     plain-requires-2
     returns-3
-    plain-requires-3
-    returns-4
     none-requires
-    returns-5)
+    returns-4)

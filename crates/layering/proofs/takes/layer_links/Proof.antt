@@ -18,7 +18,7 @@ abbrev μ-loop : tie.MeasureT-loop
 μ-loop file layers₀ work₀ edges₀ left₀ made₀ layers work edges left made = graphOf file .size - made
 
 size-of-requires : tie.Need-size-of-requires Inv-loop μ-loop
-size-of-requires c κs = omega (arith, c .before .before .before .pre .0 .sound .header)
+size-of-requires c κs = search needs
 
 clear-requires : tie.Need-clear-requires Inv-loop μ-loop
 clear-requires c κs = search needs

@@ -4,6 +4,7 @@ use mathlib.Core.Path.{_≡_, refl, sym, subst, _∙_}
 use native.Mathlib.Omega.{arith}
 use lib.ListN.{length}
 use Rattle.graph.proofs.Layered.{layered-size}
+use Rattle.graph.proofs.Quiet.{outcome-finding}
 use Rattle.network.specs.File.{graphOf}
 use Rattle.network.proofs.Groups.{group-long}
 use Rattle.peeling.specs.Peeling.{Tabled}
@@ -106,7 +107,7 @@ returns c =
     let one : (e : ℕ) → e < g .size → g .weight e ≡ 1 = λ e h. refl in
     let some = unlayered-some k one (s .args .layers .now) u (s .pre .1 .1 .1 .0 .0) in (
       record {
-        layered = taken-layered k one (s .args .layers .now) u (s .args .made) t (omega arith) (s .pre .1 .0) (i .finding _ (tabled o) some);
+        layered = taken-layered k one (s .args .layers .now) u (s .args .made) t (omega arith) (s .pre .1 .0) (outcome-finding (i .outcome _ (tabled o)) some);
         few = v .few;
         unlayered = sifted-unlayered k one (s .args .layers .now) u (s .args .made) t (omega arith) v;
         layers-length = t .same-length;

@@ -133,7 +133,7 @@ fn try_writes(case: &mut Case) {
 
 /// A written file is accepted, holds the same links, and is written again as the same bytes.
 fn try_write_again(case: &mut Case, mut network: Network) {
-    let mut first = vec![0; case.file.len()];
+    let mut first = vec![0; file_length(network.links.len())];
     lent::write(&case.file, &mut first);
     let mut again = vec![0; first.len()];
     let answer = lent::write(&first, &mut again);

@@ -9,9 +9,6 @@ use reference::{file_length, first_of};
 /// The numbers that a file's own bytes are refused with.
 pub const FILE_FAULTS: u16 = 8;
 
-/// The number that a file of no bytes is refused with.
-pub const EMPTY: u16 = 1;
-
 /// A file with n members and links that is faulty by these numbers. The first of them in order refuses it.
 pub fn faulty_file(draw: &mut Draw, network: &Network, faults: &[u16]) -> Vec<u8> {
     let has = |number: u16| faults.contains(&number);
@@ -130,7 +127,7 @@ pub fn lengths(case: &mut Case) {
         case.file = whole.clone();
         case.file.resize(length, 0);
         let expected = match length {
-            0 => EMPTY,
+            0 => 0,
             1..=8 => 1,
             _ if length == file_length(case.claimed().1) => 0,
             _ => 6,

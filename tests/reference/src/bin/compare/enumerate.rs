@@ -87,10 +87,8 @@ pub fn enumerate(case: &mut Case) {
     }
     let alive = alive(&network);
     try_levels(case, &network, &alive);
-    if !network.links.is_empty() {
-        try_finding(case, &network, &alive);
-        try_layers(case, &network);
-    }
+    try_finding(case, &network, &alive);
+    try_layers(case, &network);
 }
 
 /// The x and y of at least 1 with a pair of non-empty groups that satisfies the definition.
@@ -145,13 +143,16 @@ fn try_levels(case: &mut Case, network: &Network, alive: &[(usize, usize)]) {
     case.compare(|| "equal_level".into(), largest(&|k| (k, k)), equal);
 }
 
-/// The finding by the definition, and its bounds.
+/// The finding by the definition, and its bounds; its x × y is 0 exactly when there is no link.
 fn try_finding(case: &mut Case, network: &Network, alive: &[(usize, usize)]) {
     let best = best_of(alive);
     let (mut s, mut t) = (vec![0; network.n], vec![0; network.n]);
     let mut work = vec![0; work_length(network.n, network.links.len())];
     let found = lent::finding(&case.file, &mut s, &mut t, &mut work);
     case.compare(|| "finding: x and y".into(), best, (found.x, found.y));
+    let quiet = network.links.is_empty();
+    let zero = found.x * found.y == 0;
+    case.compare(|| "finding: x × y is 0".into(), quiet, zero);
     try_bounds(case, "finding", network, best, (bits(&s), bits(&t)));
 }
 
@@ -205,11 +206,16 @@ fn core_by_definition(network: &Network, (x, y): (usize, usize)) -> Pair {
         .fold((0, 0), |(s, t), pair| (s | pair.0, t | pair.1))
 }
 
-/// No pair of non-empty groups has more than twice the density of the pair found.
+/// No pair of non-empty groups has more than twice the density of the pair found. Its groups are non-empty, or both empty where x × y
+/// is 0.
 fn try_bounds(case: &mut Case, name: &str, network: &Network, (x, y): (usize, usize), found: Pair) {
     let squared = |pair| edges(network, pair).pow(2);
     let area = |(s, t): Pair| size(s) * size(t);
-    let below = squared(found) >= x * y * area(found) && area(found) > 0;
+    let groups = match x * y {
+        0 => found == (0, 0),
+        _ => area(found) > 0,
+    };
+    let below = squared(found) >= x * y * area(found) && groups;
     let non_empty = || all_pairs(network.n).filter(|&pair| area(pair) > 0);
     let above = non_empty().all(|pair| squared(pair) <= 4 * x * y * area(pair));
     let twice =

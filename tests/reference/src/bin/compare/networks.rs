@@ -5,11 +5,15 @@ use crate::kinds::{network, Kind, KINDS};
 use networks::{encode, Network};
 use reference::{LINKS, MEMBERS};
 
-/// Makes the case's file: of a kind, with n members and at most m links.
+/// Makes the case's file: of a kind, with n members and at most m links. Every second one without members is of no bytes.
 fn set_file(case: &mut Case, kind: &Kind, n: usize, m: usize) -> Network {
     let network = network(&mut case.draw, kind, n, m);
     case.kind = format!("{}, n {}, m {}", kind.name, network.n, network.links.len());
     case.file = encode(&network);
+    if network.n == 0 && case.draw.one_in(2) {
+        case.kind += ", as no bytes";
+        case.file.clear();
+    }
     network
 }
 

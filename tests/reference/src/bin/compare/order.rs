@@ -1,4 +1,4 @@
-//! The numbers 9 and 11 to 13 alone, together, and together with each of 1 to 8: the first in order refuses.
+//! The numbers 9, 11 and 12 alone, together, and together with each of 1 to 8: the first in order refuses.
 use crate::case::Case;
 use crate::damage::{faulty_file, FILE_FAULTS};
 use crate::networks::roomy_network;
@@ -120,9 +120,6 @@ const CALLS: [Call; 10] = [
     },
 ];
 
-/// The calls that are refused by 13 where the file has no link.
-const LINKLESS: [&str; 2] = ["finding", "layers"];
-
 fn count(file: &[u8], tables: &mut Tables, faulty: bool) -> u16 {
     let [s, t] = &mut tables.groups;
     if faulty {
@@ -146,36 +143,35 @@ fn finding(file: &[u8], tables: &mut Tables, _: bool) -> u16 {
     lent::finding(file, s, t, &mut tables.work).refusal
 }
 
-/// Every call with each fault of the file or none, each table short or none, and its own argument faulty or not.
+/// Every call with each fault of the file or none, each table short or none, and its own argument faulty or not; then the same without
+/// links, which no number refuses.
 pub fn order(case: &mut Case) {
     let network = roomy_network(case);
-    for fault in 0..=FILE_FAULTS {
-        case.file = faulty_file(&mut case.draw, &network, &[fault]);
+    try_calls(case, &network, FILE_FAULTS);
+    // 7 and 8 are faults of links.
+    try_calls(case, &Network::new(network.n, &[]), 6);
+}
+
+/// Every call on the network's file, faulty by each of the numbers up to the last or by none.
+fn try_calls(case: &mut Case, network: &Network, last: u16) {
+    for fault in 0..=last {
+        case.file = faulty_file(&mut case.draw, network, &[fault]);
         for call in &CALLS {
-            try_call(case, &network, call, fault, [0, call.own]);
-        }
-    }
-    let linkless = Network {
-        n: network.n,
-        links: Vec::new(),
-    };
-    for fault in 0..=6 {
-        case.file = faulty_file(&mut case.draw, &linkless, &[fault]);
-        for call in CALLS.iter().filter(|call| LINKLESS.contains(&call.name)) {
-            try_call(case, &linkless, call, fault, [13, 13]);
+            try_call(case, network, call, fault);
         }
     }
 }
 
-/// One call: of the file's fault, 9 where a table is short, and the call's own number without and with the faulty argument, the first
-/// in order is given.
-fn try_call(case: &mut Case, network: &Network, call: &Call, fault: u16, own: [u16; 2]) {
+/// One call: of the file's fault, 9 where a table is short, and the call's own number where the argument is faulty, the first in order
+/// is given.
+fn try_call(case: &mut Case, network: &Network, call: &Call, fault: u16) {
     for faulty in [false, true] {
         for short in 0..=call.shorten.len() {
             let mut tables = Tables::new(network);
             let is_short = short > 0 && call.shorten[short - 1](&mut tables);
             let of_table = if is_short { 9 } else { 0 };
-            let expected = first_of(&[fault, of_table, own[faulty as usize]]);
+            let own = if faulty { call.own } else { 0 };
+            let expected = first_of(&[fault, of_table, own]);
             let given = (call.refusal)(&case.file, &mut tables, faulty);
             let name = call.name;
             let call = || format!("{name}: fault {fault}, table {short} short, faulty {faulty}");

@@ -1,13 +1,17 @@
 //! The examples and limits that 01 names, and the layers of these examples as worked out by hand, by the reference and by the library.
 use crate::calls::try_all;
 use crate::case::Case;
-use crate::damage::EMPTY;
-use cogsplice::lent::{self, FindingNumbers, LayersNumbers, LevelNumbers, TotalsNumbers};
+use cogsplice::lent::{
+    self, CheckNumbers, FindingNumbers, LayersNumbers, LevelNumbers, TotalsNumbers, WriteNumbers,
+};
 use networks::{encode, Link, Network};
 use reference::{report, work_length};
 
 /// What 01 prints for network W.
 const W_REPORT: &str = "x 2 y 3 equal 2\nlinks 6 vouchers 3 vouched 2\nS 0 1 2\nT 3 4\n";
+
+/// What is printed for a quiet month.
+const QUIET_REPORT: &str = "x 0 y 0 equal 0\nlinks 0 vouchers 0 vouched 0\nS\nT\n";
 
 fn set(case: &mut Case, kind: &str, n: usize, links: &[Link]) {
     case.kind = kind.into();
@@ -52,6 +56,14 @@ pub fn paper(case: &mut Case) {
     set(case, "P8", 1, &[(0, 0)]);
     expect_finding(case, [1, 1, 1, 1], &[0], &[0]);
     expect_layers(case, [1, work_length(1, 1)], (0, 1), &[1]);
+    set(case, "P9", 1, &[]);
+    expect_quiet(case);
+    for n in [0, 2, 5, 2048] {
+        set(case, "quiet", n, &[]);
+        expect_quiet(case);
+    }
+    expect_no_bytes(case);
+    expect_short(case);
     expect_limits(case);
 }
 
@@ -98,7 +110,7 @@ fn expect_levels(case: &mut Case) {
     case.compare(|| "level_across 3".into(), answer(2), given);
 }
 
-/// x, y, the equal level and E; S and T.
+/// x, y, the equal level and E; S and T. Tables of other bytes are lent, two longer than the groups: the two last stay.
 fn expect_finding(case: &mut Case, numbers: [usize; 4], s: &[usize], t: &[usize]) {
     let [x, y, equal, edges] = numbers;
     let (sources, targets) = (s.len(), t.len());
@@ -113,15 +125,20 @@ fn expect_finding(case: &mut Case, numbers: [usize; 4], s: &[usize], t: &[usize]
         sources,
         targets,
     };
-    let wanted = (expected, (s.to_vec(), t.to_vec()));
     let (n, m) = case.claimed();
-    let (mut lent_s, mut lent_t) = (vec![0; n], vec![0; n]);
+    let table = |group: &[usize]| -> Vec<u8> {
+        let bytes = (0..n).map(|member| group.contains(&member) as u8);
+        bytes.chain([7, 7]).collect()
+    };
+    let wanted = (expected, [table(s), table(t)]);
     let mut work = vec![0; work_length(n, m)];
-    let plain = reference::finding(&case.file, &mut lent_s, &mut lent_t, work.len());
-    let groups = (members(&lent_s), members(&lent_t));
+    let mut groups = [vec![7; n + 2], vec![7; n + 2]];
+    let [lent_s, lent_t] = &mut groups;
+    let plain = reference::finding(&case.file, lent_s, lent_t, work.len());
     case.compare(|| "finding: reference".into(), &wanted, &(plain, groups));
-    let given = lent::finding(&case.file, &mut lent_s, &mut lent_t, &mut work);
-    let groups = (members(&lent_s), members(&lent_t));
+    let mut groups = [vec![7; n + 2], vec![7; n + 2]];
+    let [lent_s, lent_t] = &mut groups;
+    let given = lent::finding(&case.file, lent_s, lent_t, &mut work);
     case.compare(|| "finding".into(), &wanted, &(given, groups));
 }
 
@@ -146,7 +163,61 @@ fn expect_layers(case: &mut Case, lengths: [usize; 2], numbers: (u16, usize), of
     case.compare(|| "layers".into(), &wanted, &(given, table));
 }
 
-/// P9, no bytes at all, and the limits of n, m and a link's members.
+/// The file has no link: zeros and empty groups, no layers and their table unchanged, and a report without members. 9 is still given.
+fn expect_quiet(case: &mut Case) {
+    let enough = work_length(case.claimed().0, 0);
+    expect_finding(case, [0; 4], &[], &[]);
+    expect_layers(case, [0, enough], (0, 0), &[]);
+    expect_layers(case, [2, enough], (0, 0), &[]);
+    expect_layers(case, [2, enough - 1], (9, 0), &[]);
+    let text = report(&case.file);
+    case.compare(|| "report".into(), QUIET_REPORT.to_string(), text);
+    try_all(case);
+}
+
+/// Zero bytes count as the file with n 0 and m 0, which the writer writes.
+fn expect_no_bytes(case: &mut Case) {
+    case.kind = "no bytes".into();
+    case.file = Vec::new();
+    let checked = CheckNumbers {
+        refusal: 0,
+        link: 0,
+        n: 0,
+        m: 0,
+    };
+    let plain = reference::check(&case.file);
+    case.compare(|| "check: reference".into(), checked, plain);
+    case.compare(|| "check".into(), checked, lent::check(&case.file));
+    let written = WriteNumbers {
+        refusal: 0,
+        link: 0,
+        m: 0,
+    };
+    let wanted = (written, *b"VCH\x01\0\0\0\0\0\x07");
+    let mut out = [7; 10];
+    let plain = reference::write(&case.file, &mut out);
+    case.compare(|| "write: reference".into(), wanted, (plain, out));
+    let mut out = [7; 10];
+    let given = lent::write(&case.file, &mut out);
+    case.compare(|| "write".into(), wanted, (given, out));
+    expect_quiet(case);
+}
+
+/// 1 to 8 bytes are refused by 1, whatever they are the start of.
+fn expect_short(case: &mut Case) {
+    for network in [Network::w(), Network::new(0, &[])] {
+        for length in 1..9 {
+            case.kind = format!("{length} bytes");
+            case.file = encode(&network)[..length].to_vec();
+            let plain = reference::check(&case.file).refusal;
+            case.compare(|| "check: reference".into(), 1, plain);
+            case.compare(|| "check".into(), 1, lent::check(&case.file).refusal);
+            try_all(case);
+        }
+    }
+}
+
+/// The limits of n, m and a link's members.
 fn expect_limits(case: &mut Case) {
     let links = |m: usize| -> Vec<Link> { (0..m).map(|i| (i % 2048, i / 2048)).collect() };
     expect_check(case, (0, 0), 1, &[]);
@@ -159,16 +230,6 @@ fn expect_limits(case: &mut Case) {
     expect_check(case, (7, 0), 0, &[(0, 0)]);
     expect_check(case, (8, 2), 3, &[(1, 2), (2, 1), (1, 2), (2, 1)]);
     expect_check(case, (7, 3), 3, &[(1, 2), (1, 2), (0, 0), (3, 0)]);
-    case.kind = "no bytes".into();
-    case.file = Vec::new();
-    let given = lent::check(&case.file).refusal;
-    case.compare(|| "check of no bytes".into(), EMPTY, given);
-    try_all(case);
-    set(case, "P9", 1, &[]);
-    let found = lent::finding(&case.file, &mut [0], &mut [0], &mut [0; 8]).refusal;
-    case.compare(|| "finding without links".into(), 13, found);
-    expect_layers(case, [2, work_length(1, 0)], (13, 0), &[]);
-    try_all(case);
 }
 
 /// The refusal and the link's number of a check.
