@@ -175,8 +175,9 @@ struct cogsplice_level_numbers cogsplice_equal_level(
     uint16_t *work, size_t work_length);
 
 /* Writes the finding to s and t: the non-empty [x,y]-core, x and y at least 1, with the greatest x * y; among equal products the
- * smallest x. No pair of groups is more than twice as dense, where the density of S and T is E(S,T) / sqrt(|S| * |T|). Where the
- * file has no link, the month is quiet: all numbers are 0 and both groups are empty. x * y is 0 exactly then. Refusals 1 to 8, 9. */
+ * smallest difference between x and y comes first, then the smallest x. No pair of groups is more than twice as dense, where the
+ * density of S and T is E(S,T) / sqrt(|S| * |T|). Where the file has no link, the month is quiet: all numbers are 0 and both groups are
+ * empty. x * y is 0 exactly then. Refusals 1 to 8, 9. */
 struct cogsplice_finding_numbers cogsplice_finding(
     const uint8_t *file, size_t file_length,
     uint8_t *s, size_t s_length,

@@ -110,6 +110,13 @@ fn stars(most: usize, random: &mut Draw) -> Vec<Link> {
     links
 }
 
+/// A ring for each x and y of one product: all of them tie in the search.
+fn rings(product: usize, random: &mut Draw) -> Vec<Link> {
+    let mut links = Network::rings(product).links;
+    random.shuffle(&mut links);
+    links
+}
+
 /// Networks of many shapes.
 pub fn shapes() -> Vec<Input> {
     let random = &mut Draw::new(1);
@@ -131,6 +138,7 @@ pub fn shapes() -> Vec<Input> {
             planted(2048, 8192, random),
         ),
         ("stars of 1 to 62, out and in", 2015, stars(62, random)),
+        ("rings of product 336", 1984, rings(336, random)),
     ];
     let inputs = networks.into_iter();
     inputs

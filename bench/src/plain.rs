@@ -7,6 +7,7 @@ mod peel;
 use chunks::chunks_mut;
 use network::{counted, fill_starts, next_place, source, target, Network, Sorter, HEADER_LENGTH};
 use peel::{Need, Peel, Rise};
+use std::cmp::Reverse;
 
 /// A refusal's number, and the link's number for the refusals that name one.
 #[derive(Clone, Copy)]
@@ -187,8 +188,8 @@ fn search(peel: &mut Peel) -> (u16, Need) {
     let equal = peel.climb(Rise::Both, 0, 1);
     let mut best = Need { x: equal, y: equal };
     let longest = peel.longest_rows();
-    for x in 1..=equal {
-        let first = first_better(best, x, |_| x);
+    for x in in_turn(equal) {
+        let first = first_better(best, x, |y| Need { x, y });
         if longest.y < first {
             continue;
         }
@@ -197,8 +198,8 @@ fn search(peel: &mut Peel) -> (u16, Need) {
             best = Need { x, y };
         }
     }
-    for y in 1..=equal {
-        let first = first_better(best, y, |x| x);
+    for y in in_turn(equal) {
+        let first = first_better(best, y, |x| Need { x, y });
         if longest.x < first {
             continue;
         }
@@ -210,6 +211,12 @@ fn search(peel: &mut Peel) -> (u16, Need) {
     (equal, best)
 }
 
+/// The numbers up to the equal level: first 1, for which nothing is climbed, then from the top down, so that of equal products the even ones,
+/// which come first, are found first.
+fn in_turn(equal: u16) -> impl Iterator<Item = u16> {
+    (1..=equal.min(1)).chain((2..=equal).rev())
+}
+
 /// The last number from `first` on that, beside the fixed one, has a core that is not empty, or first - 1. Beside 1 it is the longest row
 /// of the side that rises: the place of that row and all in it are such a core, and nothing is climbed.
 fn last_from(peel: &mut Peel, rise: Rise, fixed: u16, first: u16, longest: u16) -> u16 {
@@ -219,14 +226,21 @@ fn last_from(peel: &mut Peel, rise: Rise, fixed: u16, first: u16, longest: u16) 
     peel.climb(rise, fixed, first)
 }
 
-/// The least number that, beside the fixed one, gives a greater product than the best, or an equal one with a smaller x.
-fn first_better(best: Need, fixed: u16, x_at: impl Fn(u16) -> u16) -> u16 {
-    let product = u32::from(best.x) * u32::from(best.y);
-    let quotient = (product / u32::from(fixed)) as u16;
-    let ties = product % u32::from(fixed) == 0;
-    if ties && x_at(quotient) < best.x {
+/// The least number that, beside the fixed one, gives a pair that comes before the best.
+fn first_better(best: Need, fixed: u16, pair_at: impl Fn(u16) -> Need) -> u16 {
+    let quotient = (product(best) / u32::from(fixed)) as u16;
+    if order(pair_at(quotient)) < order(best) {
         quotient
     } else {
         quotient + 1
     }
+}
+
+fn product(pair: Need) -> u32 {
+    u32::from(pair.x) * u32::from(pair.y)
+}
+
+/// What pairs are compared by: the greatest product comes first, then the smallest difference, then the smallest x.
+fn order(pair: Need) -> (Reverse<u32>, u16, u16) {
+    (Reverse(product(pair)), pair.x.abs_diff(pair.y), pair.x)
 }

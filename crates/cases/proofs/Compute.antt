@@ -12,7 +12,7 @@ use lib.Dec.{eqb, leb, ltb}
 use lib.ListN.{length, getD}
 use Rattle.graph.specs.Graph.{Graph, Group, card, edges}
 use Rattle.graph.specs.Shapes.{Closed, total}
-use Rattle.graph.specs.Core.{Inside, Dense, Core, Nonempty, Greatest, Before, Finding}
+use Rattle.graph.specs.Core.{Inside, Dense, Core, Nonempty, Greatest, apart, Before, Finding}
 use Rattle.graph.specs.Quiet.{everyone, Outcome, ring, quiet}
 use Rattle.graph.specs.Layers.{stillIn, joins, Layer, Layering}
 use Rattle.graph.proofs.Tests.{and-left, and-right}
@@ -148,13 +148,21 @@ last-sound {g} c x y k rise h =
 
 -- (x,y) comes before (x′,y′)
 abbrev pub isBefore : ℕ → ℕ → ℕ → ℕ → Bool
-isBefore x y x′ y′ = leb (x′ * y′) (x * y) && implies (eqb (x′ * y′) (x * y)) (leb x x′)
+isBefore x y x′ y′ =
+    leb (x′ * y′) (x * y) && implies (eqb (x′ * y′) (x * y)) (leb (apart x y) (apart x′ y′) && implies (eqb (apart x y) (apart x′ y′)) (leb x x′))
 
 -- by the definition
 before-sound : (x y x′ y′ : ℕ) → isBefore x y x′ y′ ≡ true → Before x y x′ y′
 before-sound x y x′ y′ h =
-    let (p, q) = both (leb (x′ * y′) (x * y)) _ h in
-    record { product = leb-true _ _ p; tie = λ e. leb-true _ _ (implies-true q (eq-eqb _ _ e)) }
+    record {
+      product = leb-true _ _ (both (leb (x′ * y′) (x * y)) _ h .0);
+      even = λ e. leb-true _ _ (tied e .0);
+      tie = λ e d. leb-true _ _ (implies-true (tied e .1) (eq-eqb _ _ d));
+    }
+  where
+    -- what is tested where the products are equal
+    tied : x′ * y′ ≡ x * y → (leb (apart x y) (apart x′ y′) ≡ true) × (implies (eqb (apart x y) (apart x′ y′)) (leb x x′) ≡ true)
+    tied e = both (leb (apart x y) (apart x′ y′)) _ (implies-true (both (leb (x′ * y′) (x * y)) _ h .1) (eq-eqb _ _ e))
 
 -- (x,y) comes before every [x′,y′] up to the number of links for which the sweeps leave somebody
 abbrev pub isFirst : Graph → ℕ → ℕ → Bool

@@ -1,4 +1,4 @@
--- 01's "Networks to try" as one table: each network as the bytes of its file, and what 01 says of it, by the definitions.
+-- 01's "Networks to try" and 02's example as one table: each network as the bytes of its file, and what is said of it, by the definitions.
 use Prim.Native.Nat.{ℕ, suc}
 use mathlib.Core.Bool.{false, _||_}
 use mathlib.Core.List.{List, [], _∷_, _++_}
@@ -26,7 +26,7 @@ pub record Ring : Type 0 where
   pub T : List ℕ
   pub E : ℕ
 
--- what 01 says of a network, and 02 of its layers; S and T list members
+-- what 01 says of a network, and 02; S and T list members
 pub data Claim : Type 0 where
   -- the [x,y]-core is S and T, with E links between them
   core : (x y : ℕ) (S T : List ℕ) (E : ℕ) → Claim
@@ -94,11 +94,15 @@ pub record Case : Type 0 where
 abbrev pub W : List ℕ
 W = header 6 8 ++ edgeBytes 0 3 ++ edgeBytes 0 4 ++ edgeBytes 1 3 ++ edgeBytes 1 4 ++ edgeBytes 2 3 ++ edgeBytes 2 4 ++ edgeBytes 4 5 ++ edgeBytes 5 5
 
+-- 02's example: a star of four vouchers round member 4, and a ring of two vouchers and two vouched members
+abbrev pub starAndRing : List ℕ
+starAndRing = header 9 8 ++ edgeBytes 0 4 ++ edgeBytes 1 4 ++ edgeBytes 2 4 ++ edgeBytes 3 4 ++ edgeBytes 5 7 ++ edgeBytes 5 8 ++ edgeBytes 6 7 ++ edgeBytes 6 8
+
 -- one case of the table
 abbrev pub says : List ℕ → Claim → Case
 says f c = record { file = f; claim = c }
 
--- P1 to P9, W's report and W's layers, zero bytes, then the limits of a file
+-- P1 to P9, W's report and W's layers, 02's example, zero bytes, then the limits of a file
 unfoldable pub cases : List Case
 cases =
     -- P1
@@ -125,6 +129,12 @@ cases =
     ∷ says (header 4 3 ++ edgeBytes 0 1 ++ edgeBytes 0 2 ++ edgeBytes 0 3) (finding 3 1 1 (0 ∷ []) (1 ∷ 2 ∷ 3 ∷ []) 3)
     -- P7
     ∷ says (header 6 4 ++ edgeBytes 0 1 ++ edgeBytes 0 2 ++ edgeBytes 3 5 ++ edgeBytes 4 5) (finding 1 2 1 (3 ∷ 4 ∷ []) (5 ∷ []) 2)
+    -- a ring beside a star of equal product (02, wish 4), and their layers
+    ∷ says starAndRing (finding 2 2 2 (5 ∷ 6 ∷ []) (7 ∷ 8 ∷ []) 4)
+    ∷ says starAndRing (layers (2 ∷ 2 ∷ 2 ∷ 2 ∷ 1 ∷ 1 ∷ 1 ∷ 1 ∷ []) (
+    record { x = 2; y = 2; S = 5 ∷ 6 ∷ []; T = 7 ∷ 8 ∷ []; E = 4 }
+    ∷ record { x = 1; y = 4; S = 0 ∷ 1 ∷ 2 ∷ 3 ∷ []; T = 4 ∷ []; E = 4 }
+    ∷ []))
     -- P8
     ∷ says (header 1 1 ++ edgeBytes 0 0) (finding 1 1 1 (0 ∷ []) (0 ∷ []) 1)
     -- P9, by 02, wish 3: nothing is found, and there is no layer

@@ -1,3 +1,4 @@
+pub mod Comparing
 pub mod Starts
 pub mod Lines
 pub mod Turns

@@ -7,7 +7,8 @@ use native.Mathlib.Omega.{arith}
 use Rattle.graph.specs.Graph.{Graph}
 use Rattle.graph.specs.Shapes.{Closed}
 use Rattle.graph.specs.Core.{Nonempty, Before}
-use Rattle.graph.proofs.Search.{before-refl, level-before, level-across-before, pruned-row, pruned-column}
+use Rattle.graph.proofs.Before.{before-refl, before-else}
+use Rattle.graph.proofs.Search.{level-before, level-across-before, pruned-row, pruned-column}
 use Rattle.network.specs.declared.Side.{Side}
 use Rattle.network.specs.declared.Side.the-variants.{Source, Target}
 use Rattle.peeling.specs.Peeling.{Tabled, Kept}
@@ -17,13 +18,13 @@ use Rattle.climbing.proofs.Levels.{climbed-level}
 use Rattle.climbing.proofs.Unreached.{longest-stops}
 use Rattle.climbing.proofs.Stars.{longest-sources, longest-targets}
 use Rattle.finding.specs.declared.Best.{Best}
-use Rattle.finding.specs.Searches.{riseOf, xAt, yAt, InRange, FirstBefore, Tries}
+use Rattle.finding.specs.Searches.{riseOf, xAt, yAt, pairAt, InRange, FirstBetter, Tries}
 
 -- the level comes before the rest of its row or column
 line-before : (side : Side) (fixed last : ℕ) {g : Graph} → 1 ≤ fixed → LevelOf g (riseOf side) fixed last
     → (j : ℕ) → 1 ≤ j → Nonempty g (xAt side fixed j) (yAt side fixed j)
     → Before (xAt side fixed last) (yAt side fixed last) (xAt side fixed j) (yAt side fixed j)
-line-before Source fixed last f l = level-before l
+line-before Source fixed last f l = level-before f l
 line-before Target fixed last f l = level-across-before f l
 
 -- where the core is empty at s, below which the best comes before a row or column, it comes before the whole
@@ -33,16 +34,12 @@ line-pruned : (side : Side) (fixed s : ℕ) (b : Best) {g : Graph} → Closed g
 line-pruned Source fixed s b k low none = pruned-row k s low none
 line-pruned Target fixed s b k low none = pruned-column k s low none
 
--- the pair at j of a row or column
-abbrev pub pairAt : Side → ℕ → ℕ → Best
-pairAt side fixed j = record { x = xAt side fixed j; y = yAt side fixed j }
-
--- it is in range where both numbers are
+-- the pair at j of a row or column is in range where both numbers are
 pair-range : (side : Side) {fixed j : ℕ} → 1 ≤ fixed → fixed < 65536 → 1 ≤ j → j < 65536 → InRange (pairAt side fixed j)
 pair-range Source p q i l = record { x-positive = p; y-positive = i; x-small = q; y-small = l }
 pair-range Target p q i l = record { x-positive = i; y-positive = p; x-small = l; y-small = q }
 
-module _ {n m : ℕ} {side : Side} {fixed s : ℕ} {b : Best} {w w′ : List ℕ} (i : FirstBefore side fixed b s) where
+module _ {n m : ℕ} {side : Side} {fixed s : ℕ} {b : Best} {w w′ : List ℕ} (i : FirstBetter side fixed b s) where
   -- where the core is empty at the start of a row or column, the best is left
   pub tries-none : InRange b → Kept n m w w′ → ((g : Graph) → Tabled g n m w → ¬ Reached g (riseOf side) fixed s) → Tries n m side fixed b w w′ b
   tries-none r k none =
@@ -62,7 +59,7 @@ module _ {n m : ℕ} {side : Side} {fixed s : ℕ} {b : Best} {w w′ : List ℕ
         in-range = pair-range side p q (le-trans (i .positive) l) (c .fits l);
         kept = c .kept;
         reached = λ g t h. c .holds g t l;
-        before = i .high last l;
+        before = before-else (i .high last l);
         all = λ g t. line-before side fixed last p (climbed-level (riseOf side) fixed s c (λ h. l) t);
       }
 

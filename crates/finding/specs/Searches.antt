@@ -29,6 +29,10 @@ xAt side fixed j = ofSources (riseOf side) fixed j
 abbrev pub yAt : Side → ℕ → ℕ → ℕ
 yAt side fixed j = ofTargets (riseOf side) fixed j
 
+-- the pair there
+abbrev pub pairAt : Side → ℕ → ℕ → Best
+pairAt side fixed j = record { x = xAt side fixed j; y = yAt side fixed j }
+
 -- the best is a pair of numbers from 1 to 65,535
 pub record InRange (b : Best) : Type 0 where
   pub x-positive : 1 ≤ b .x
@@ -36,11 +40,11 @@ pub record InRange (b : Best) : Type 0 where
   pub x-small : b .x < 65536
   pub y-small : b .y < 65536
 
--- s is the first place of a row or column that comes before the best: from s on it does, and below s the best comes before it
-pub record FirstBefore (side : Side) (fixed : ℕ) (b : Best) (s : ℕ) : Type 0 where
+-- s is the first place of a row or column that is better than the best: below s the best comes before it, and from s on it does not
+pub record FirstBetter (side : Side) (fixed : ℕ) (b : Best) (s : ℕ) : Type 0 where
   pub positive : 1 ≤ s
   pub low : (j : ℕ) → j < s → Before (b .x) (b .y) (xAt side fixed j) (yAt side fixed j)
-  pub high : (j : ℕ) → s ≤ j → Before (xAt side fixed j) (yAt side fixed j) (b .x) (b .y)
+  pub high : (j : ℕ) → s ≤ j → ¬ Before (b .x) (b .y) (xAt side fixed j) (yAt side fixed j)
 
 -- one row or column is tried: what is kept is a non-empty core where the best was one, and comes before the best and before every
 -- non-empty core of that row or column

@@ -7,13 +7,16 @@ use climbing::longest_row;
 use network::Side;
 use peeling::Scope;
 use peeling::core_in;
+ghost use mathlib.Core.Bool.{false};
+ghost use mathlib.Core.Logic.{_↔_};
 ghost use mathlib.Core.Path.{_≡_};
 ghost use Prim.Native.Nat.{ℕ, _+_, _*_, _<_, _≤_};
 ghost use lib.ListN.{length};
+ghost use Rattle.graph.specs.Core.{apart, Before};
 ghost use Rattle.network.specs.File.{mostMembers};
 ghost use Rattle.peeling.specs.Peeling.{Small, Held, startOf};
 ghost use Rattle.climbing.specs.Climbs.{rising, Longest, Climbed};
-ghost use Rattle.finding.specs.Searches.{riseOf, InRange, FirstBefore, Tries, Searched, FoundIn};
+ghost use Rattle.finding.specs.Searches.{riseOf, pairAt, InRange, FirstBetter, Tries, Searched, FoundIn};
 
 // What rises where the need of a side is fixed.
 fn rise_of(side: Side) -> Rise
@@ -39,22 +42,61 @@ fn longest_of(work: &[u16], order: usize, side: Side) -> usize
     }
 }
 
-// Where a row or column begins to come before the best: at the first greater product, or at an equal one with a smaller x.
+// The pair at a number of a row or column: with x fixed that number is y, with y fixed it is x.
+fn pair_at(side: Side, fixed: usize, number: usize) -> Best
+    ensures { λ r. ⌜ r ≡ pairAt side fixed number ⌝ }
+{
+    match side {
+        Side::Source => Best {
+            x: fixed,
+            y: number,
+        },
+        Side::Target => Best {
+            x: number,
+            y: fixed,
+        },
+    }
+}
+
+// The difference between x and y.
+fn difference(x: usize, y: usize) -> usize
+    ensures { λ r. ⌜ r ≡ apart x y ⌝ }
+{
+    if x < y { y - x } else { x - y }
+}
+
+// 02: whether a pair is better than the best, which is not better than itself: by the greater product, then by the smaller difference, then by the
+// smaller x.
+fn is_better(pair: Best, best: Best) -> bool
+    requires { ⌜ (pair .x * pair .y < 4294967296) × (best .x * best .y < 4294967296) ⌝ }
+    ensures { λ r. ⌜ (r ≡ false) ↔ Before (best .x) (best .y) (pair .x) (pair .y) ⌝ }
+{
+    let product = pair.x * pair.y;
+    let best_product = best.x * best.y;
+    if product != best_product {
+        return best_product < product;
+    }
+    let apart = difference(pair.x, pair.y);
+    let best_apart = difference(best.x, best.y);
+    if apart != best_apart {
+        return apart < best_apart;
+    }
+    pair.x < best.x
+}
+
+// Where a row or column begins to be better than the best: up to the quotient no product is greater than that of the best, and past it each is, so
+// that it is the quotient or the number after it.
 fn start_of(side: Side, fixed: usize, best: Best) -> usize
     requires { ⌜ (1 ≤ fixed) × (fixed < 65536) ⌝ }
     requires { ⌜ InRange best ⌝ }
-    ensures { λ r. ⌜ FirstBefore side fixed best r ⌝ }
+    ensures { λ r. ⌜ FirstBetter side fixed best r ⌝ }
 {
-    let product = best.x * best.y;
-    let quotient = product / fixed;
-    if quotient * fixed != product {
-        return quotient + 1;
+    let quotient = best.x * best.y / fixed;
+    let pair = pair_at(side, fixed, quotient);
+    if is_better(pair, best) {
+        return quotient;
     }
-    let x = match side {
-        Side::Source => fixed,
-        Side::Target => quotient,
-    };
-    if x < best.x { quotient } else { quotient + 1 }
+    quotient + 1
 }
 
 // The last number from `start` on at which the core of a row or column is not empty, or start - 1. Of x = 1, or of y = 1, it is `longest`, the
@@ -107,13 +149,12 @@ fn try_one(
     if last < start {
         return best;
     }
-    match side {
-        Side::Source => Best { x: fixed, y: last },
-        Side::Target => Best { x: last, y: fixed },
-    }
+    pair_at(side, fixed, last)
 }
 
-// Every row and then every column up to k. The longest row of the places that rise is the same for a whole side, so it is looked for once.
+// Every row and then every column up to k: first that of 1, which needs no climb, then from k down, so that of equal products the more even pair,
+// which comes first, is also found first, and the others begin one past the tie. The longest row of the places that rise is the same for a whole
+// side, so it is looked for once.
 fn search(work: &mut [u16], order: usize, size: usize, k: usize) -> Best
     requires { ⌜ Small order size ⌝ }
     requires { ⌜ Held order size (now work) ⌝ }
@@ -124,16 +165,17 @@ fn search(work: &mut [u16], order: usize, size: usize, k: usize) -> Best
     let mut side = Side::Source;
     'search: loop {
         let longest = longest_of(work, order, side);
-        let mut fixed = 1;
+        best = try_one(work, order, size, side, longest, 1, best);
+        let mut fixed = k;
         loop {
-            if k < fixed {
+            if fixed <= 1 {
                 if let Side::Target = side {
                     break 'search;
                 }
                 break;
             }
             best = try_one(work, order, size, side, longest, fixed, best);
-            fixed += 1;
+            fixed -= 1;
         }
         side = Side::Target;
     }

@@ -1,16 +1,17 @@
 -- Levels and the finding: there is one of each, and only one.
-use Prim.Native.Nat.{ℕ, zero, suc, _*_, _≤_}
+use Prim.Native.Nat.{ℕ, zero, suc, _≤_}
 use mathlib.Core.Logic.{⊎-elim}
-use mathlib.Core.Path.{_≡_, sym, ap, _∙_}
+use mathlib.Core.Path.{_≡_}
 use native.Mathlib.Decide.{decLe}
-use native.Mathlib.Nat.{le-antisymm, eq-or-lt-of-le, eq-zero-or-pos, eq-of-mul-eq-mul-left}
+use native.Mathlib.Nat.{le-antisymm, eq-or-lt-of-le, eq-zero-or-pos}
 use native.Mathlib.Omega.{arith}
 use Rattle.graph.specs.Graph.{Graph, Group, card}
 use Rattle.graph.specs.Shapes.{Closed, total, Same}
 use Rattle.graph.specs.Core.{Core, Nonempty, Greatest, Level, LevelAcross, EqualLevel, Finding}
 use Rattle.graph.specs.Search.{BestTried}
 use Rattle.graph.proofs.Exists.{core-exists, core-some, core-unique}
-use Rattle.graph.proofs.Search.{before-refl, before-total, before-trans, best-start, best-row, best-column, best-finding, level-before, level-across-before, factors}
+use Rattle.graph.proofs.Before.{before-refl, before-trans, before-unique, before-total}
+use Rattle.graph.proofs.Search.{best-start, best-row, best-column, best-finding, level-before, level-across-before, factors}
 use Rattle.graph.proofs.Weights.{nonempty-x, nonempty-y, linked-one}
 
 -- a core is empty or not
@@ -54,8 +55,8 @@ equal-level-exists {g} k = greatest-exists (λ j. nonempty? k j j) (total g) (λ
 row : {g : Graph} → Closed g → {m n x y : ℕ} → BestTried g m n x y → (x : ℕ) × (y : ℕ) × BestTried g (suc m) n x y
 row {g} k {m} {n} {x} {y} s =
     let (j, l) = level-exists k (suc m) in
-    ⊎-elim (λ b. (x, y, best-row x y s (s .reached) (before-refl x y) (λ y′ p e. before-trans b (level-before l y′ p e))))
-    (λ b. (suc m, j, best-row (suc m) j s (λ p. l .holds (factors (suc m) j p .1)) b (level-before l))) (before-total x y (suc m) j)
+    ⊎-elim (λ b. (x, y, best-row x y s (s .reached) (before-refl x y) (λ y′ p e. before-trans b (level-before (omega arith) l y′ p e))))
+    (λ b. (suc m, j, best-row (suc m) j s (λ p. l .holds (factors (suc m) j p .1)) b (level-before (omega arith) l))) (before-total x y (suc m) j)
 
 -- the same for the next y
 column : {g : Graph} → Closed g → {m n x y : ℕ} → BestTried g m n x y → (x : ℕ) × (y : ℕ) × BestTried g m (suc n) x y
@@ -87,8 +88,6 @@ pub finding-unique : {g : Graph} {x y x′ y′ : ℕ} {S T S′ T′ : Group} �
 finding-unique {g} {x} {y} {x′} {y′} a b =
     let p = a .before x′ y′ (b .x-positive) (b .y-positive) (finding-nonempty b) in
     let q = b .before x y (a .x-positive) (a .y-positive) (finding-nonempty a) in
-    let e : x′ * y′ ≡ x * y = omega arith in
-    let ex : x ≡ x′ = le-antisymm (p .tie e) (q .tie (sym e)) in
-    let ey : y ≡ y′ = eq-of-mul-eq-mul-left x (a .x-positive) y y′ (sym e ∙ ap (_* y′) (sym ex)) in
+    let (ex, ey) = before-unique (a .x-positive) p q in
     let (i, j) = core-unique (a .core) (rw (← ex, ← ey) at (b .core)) in
     (ex, ey, i, j)

@@ -8,6 +8,7 @@ pub mod Degrees
 pub mod Peel
 pub mod Exists
 pub mod Density
+pub mod Before
 pub mod Search
 pub mod Weights
 pub mod Found

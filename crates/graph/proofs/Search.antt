@@ -2,13 +2,14 @@
 use Prim.Native.Nat.{ℕ, zero, suc, _*_, _<_, _≤_}
 use mathlib.Core.Logic.{_⊎_, inl, inr, ⊎-elim}
 use native.Mathlib.Decide.{decLe}
-use native.Mathlib.Nat.{le-refl, le-trans, one-le-mul, mul-le-mul-left, mul-le-mul-right, le-of-mul-le-mul-right, eq-or-lt-of-le}
+use native.Mathlib.Nat.{le-refl, le-trans, one-le-mul, eq-or-lt-of-le}
 use native.Mathlib.Omega.{arith}
 use Rattle.graph.specs.Graph.{Graph, Group}
 use Rattle.graph.specs.Shapes.{Closed}
 use Rattle.graph.specs.Core.{Core, Nonempty, Greatest, Level, LevelAcross, EqualLevel, Before, Finding}
 use Rattle.graph.specs.Search.{Tried, BestTried}
 use Rattle.graph.proofs.Exists.{nonempty-nested, core-some}
+use Rattle.graph.proofs.Before.{before-trans, row-before, column-before}
 
 -- what holds at k, not at the next number, and downwards from wherever it holds, has k for its greatest
 pub greatest-stop : {P : ℕ → Type 0} (k : ℕ) → ((i j : ℕ) → i ≤ j → P j → P i) → (1 ≤ k → P k) → ¬ P (suc k) → Greatest P k
@@ -34,24 +35,6 @@ beside-equal {g} k {j} {x} {y} l n = go (decLe x j) (decLe y j)
     go (yes p) d = inl p
     go (no p) (yes q) = inr q
     go (no p) (no q) = absurd (omega (arith, l .above (suc j) (omega arith) (nonempty-nested k (omega arith) (omega arith) n)))
-
--- every [x,y] comes before itself
-pub before-refl : (x y : ℕ) → Before x y x y
-before-refl x y = omega arith
-
--- and before whatever comes after one that it comes before
-pub before-trans : {x y x′ y′ x″ y″ : ℕ} → Before x y x′ y′ → Before x′ y′ x″ y″ → Before x y x″ y″
-before-trans p q = record { product = le-trans (q .product) (p .product); tie = λ e. omega (arith, p .tie (omega arith), q .tie (omega arith)) }
-
--- one of two comes before the other
-pub before-total : (x y x′ y′ : ℕ) → Before x y x′ y′ ⊎ Before x′ y′ x y
-before-total x y x′ y′ = go (decLe (x * y) (x′ * y′)) (decLe (x′ * y′) (x * y)) (decLe x x′)
-  where
-    go : Dec (x * y ≤ x′ * y′) → Dec (x′ * y′ ≤ x * y) → Dec (x ≤ x′) → Before x y x′ y′ ⊎ Before x′ y′ x y
-    go (no p) q r = inl (omega arith)
-    go (yes p) (no q) r = inr (omega arith)
-    go (yes p) (yes q) (yes r) = inl (omega arith)
-    go (yes p) (yes q) (no r) = inr (omega arith)
 
 -- what is kept at a step of a search comes before what it had and before each non-empty core that the step adds
 best-more : {g : Graph} {m n m′ n′ x y : ℕ} (a b : ℕ) → BestTried g m n x y → (1 ≤ a * b → Nonempty g a b) → Before a b x y
@@ -85,12 +68,12 @@ best-column {g} {m} {n} a b s r p column = best-more a b s r p new
     new x′ y′ i j (inr h) e = ⊎-elim (λ t. inr (rw t (column x′ i (rw t at e)))) (λ t. inl (inr (omega arith))) (eq-or-lt-of-le h)
 
 -- the level of x comes before every other y
-pub level-before : {g : Graph} {x y : ℕ} → Level g x y → (y′ : ℕ) → 1 ≤ y′ → Nonempty g x y′ → Before x y x y′
-level-before {g} {x} l y′ p n = record { product = mul-le-mul-left x (l .above _ p n); tie = λ e. le-refl x }
+pub level-before : {g : Graph} {x y : ℕ} → 1 ≤ x → Level g x y → (y′ : ℕ) → 1 ≤ y′ → Nonempty g x y′ → Before x y x y′
+level-before q l y′ p n = row-before q (l .above _ p n)
 
 -- and the level across of y before every other x
 pub level-across-before : {g : Graph} {x y : ℕ} → 1 ≤ y → LevelAcross g y x → (x′ : ℕ) → 1 ≤ x′ → Nonempty g x′ y → Before x y x′ y
-level-across-before {g} {x} {y} q l x′ p n = record { product = mul-le-mul-right y (l .above _ p n); tie = λ e. le-of-mul-le-mul-right (omega arith) q }
+level-across-before q l x′ p n = column-before q (l .above _ p n)
 
 -- a climb of y that begins at s, below which nothing comes before the best: where s is empty, the best comes before the whole row,
 -- since a core for a greater y would make the one for s non-empty

@@ -1,5 +1,5 @@
 -- [x,y]-cores, levels, the finding, and the bound on the density of every pair.
-use Prim.Native.Nat.{ℕ, _*_, _<_, _≤_}
+use Prim.Native.Nat.{ℕ, _+_, _-_, _*_, _<_, _≤_}
 use mathlib.Core.Bool.{true}
 use mathlib.Core.Path.{_≡_}
 use Rattle.graph.specs.Graph.{Graph, Group, card, edges, outDegree, inDegree}
@@ -47,10 +47,16 @@ LevelAcross g y x = Greatest (λ j. Nonempty g j y) x
 abbrev pub EqualLevel : Graph → ℕ → Type 0
 EqualLevel g k = Greatest (λ j. Nonempty g j j) k
 
--- (x,y) comes before (x′,y′): its product is the greater, or they are equal and its x is no greater
+-- 02, wish 4: the difference between x and y; a - b is 0 where b is the greater, so only one of the two counts
+unfoldable pub apart : ℕ → ℕ → ℕ
+apart x y = (x - y) + (y - x)
+
+-- 02, wish 4: (x,y) comes before (x′,y′), or is the same: the greatest product comes first, among equal products the smallest difference, then
+-- the smallest x
 pub record Before (x y x′ y′ : ℕ) : Type 0 where
   pub product : x′ * y′ ≤ x * y
-  pub tie : x′ * y′ ≡ x * y → x ≤ x′
+  pub even : x′ * y′ ≡ x * y → apart x y ≤ apart x′ y′
+  pub tie : x′ * y′ ≡ x * y → apart x y ≡ apart x′ y′ → x ≤ x′
 
 -- 01: (S,T) is the finding, for [x,y]: the non-empty core, x and y at least 1, that comes before every other
 pub record Finding (g : Graph) (x y : ℕ) (S T : Group) : Type 0 where

@@ -25,7 +25,8 @@ pub struct Pair {
     pub edges: u32,
 }
 
-/// The non-empty `[x,y]`-core with the greatest `x * y`, among equal products that of the smallest `x`.
+/// The non-empty `[x,y]`-core with the greatest `x * y`; among equal products the smallest difference between `x` and `y` comes first, then
+/// the smallest `x`.
 ///
 /// No pair of groups is more than twice as dense. In a quiet month, when the network has no link, all numbers are 0 and both groups are
 /// empty. `==` compares all of a finding, [`Finding::equals`] what makes two findings equal.
@@ -290,6 +291,9 @@ impl Network {
     /// let finding = star.finding();
     /// assert_eq!((finding.x, finding.y), (3, 1));
     /// assert!(finding.equals(&star.ordered().finding()));
+    /// // A star does not hide a ring of the same product: here [4,1] and [2,2].
+    /// let both = [(0, 1), (0, 2), (0, 3), (0, 4), (5, 7), (5, 8), (6, 7), (6, 8)];
+    /// assert_eq!(Network::from_links(9, &both).unwrap().finding().pair.s, [5, 6]);
     /// assert!(!finding.is_quiet());
     /// assert!(Network::from_links(4, &[]).unwrap().finding().is_quiet());
     /// ```

@@ -38,6 +38,34 @@ impl Network {
             ],
         )
     }
+
+    /// 02's example of a star beside a ring of the same product: four members vouch for member 4, and each of two for two others.
+    pub fn star_and_ring() -> Network {
+        let star = all_links(&[0, 1, 2, 3], &[4]);
+        let ring = all_links(&[5, 6], &[7, 8]);
+        Network::new(9, &[star, ring].concat())
+    }
+
+    /// A ring [x,y] for each x and y whose product is this one, by ascending x. No two share a voucher or a vouched member, and the
+    /// vouchers come before the vouched members.
+    pub fn rings(product: usize) -> Network {
+        let numbers = || (1..=product).filter(|x| product % x == 0);
+        let half: usize = numbers().sum();
+        let (mut vouchers, mut vouched) = (0..half, half..2 * half);
+        let mut links = Vec::new();
+        for x in numbers() {
+            let s: Vec<usize> = vouchers.by_ref().take(product / x).collect();
+            let t: Vec<usize> = vouched.by_ref().take(x).collect();
+            links.extend(all_links(&s, &t));
+        }
+        Network { n: 2 * half, links }
+    }
+}
+
+/// All links from these vouchers to these vouched members.
+pub fn all_links(vouchers: &[usize], vouched: &[usize]) -> Vec<Link> {
+    let links_of = |&a| vouched.iter().map(move |&b| (a, b));
+    vouchers.iter().flat_map(links_of).collect()
 }
 
 /// The bytes of a network's file, its links in the given order. What no file may hold is written as it is, in 16 bits.

@@ -76,7 +76,18 @@ fn raise(non_empty: impl Fn(usize) -> bool) -> usize {
     level
 }
 
-/// x and y of the finding: the greatest x × y with a non-empty core, among equal products the smallest x; 0 and 0 without links.
+/// Whether [x,y] comes before [a,b]: the greater product comes first, among equal products the smaller difference, then the smaller x.
+fn comes_before((x, y): (usize, usize), (a, b): (usize, usize)) -> bool {
+    if x * y != a * b {
+        return x * y > a * b;
+    }
+    if x.abs_diff(y) != a.abs_diff(b) {
+        return x.abs_diff(y) < a.abs_diff(b);
+    }
+    x < a
+}
+
+/// x and y of the finding: of all with a non-empty core those that come before the others; 0 and 0 without links.
 ///
 /// No core is non-empty with an x above every member's number of links as a voucher: a member of S has x links.
 pub(crate) fn finding_of(network: &Network) -> (usize, usize) {
@@ -90,7 +101,7 @@ pub(crate) fn finding_of(network: &Network) -> (usize, usize) {
     for x in 1..=most {
         let mut y = 1;
         while has_core(network, x, y) {
-            if x * y > best.0 * best.1 {
+            if comes_before((x, y), best) {
                 best = (x, y);
             }
             y += 1;

@@ -1,18 +1,12 @@
 //! Writes the networks of the folder `samples` into the folder that is named:
 //! `cargo run --manifest-path tests/networks/Cargo.toml samples`.
-use networks::{encode, Draw, Link, Network};
+use networks::{all_links, encode, Draw, Link, Network};
 use std::collections::HashSet;
 use std::path::Path;
 use std::{env, fs};
 
 fn network(n: usize, links: &[Link]) -> Vec<u8> {
     encode(&Network::new(n, links))
-}
-
-/// All links from these vouchers to these vouched members.
-fn all_links(vouchers: &[usize], vouched: &[usize]) -> Vec<Link> {
-    let links_of = |&a| vouched.iter().map(move |&b| (a, b));
-    vouchers.iter().flat_map(links_of).collect()
 }
 
 /// Adds random links among n members until there are m links.
@@ -67,6 +61,8 @@ fn main() {
     write("w", &w);
     write("star", &network(4, &[(0, 1), (0, 2), (0, 3)]));
     write("tie", &network(6, &[(0, 1), (0, 2), (3, 5), (4, 5)]));
+    write("star-and-ring", &encode(&Network::star_and_ring()));
+    write("twelve", &encode(&Network::rings(12)));
     write("planted-ring", &planted_ring());
     write("two-rings", &two_rings());
     write("quiet", &network(5, &[]));

@@ -1,13 +1,12 @@
 -- `finding::searches::try_one` meets its contract: where no place that rises has so many edges as the start, or the last core is before it, the
 -- core is empty at the start, and the best is left. From the start on, the last core is the level of the row or column, which comes before all
 -- of it and before the best.
-use denote.Ref.{now}
 use borrow.Author.Needs.{needs}
 use Rattle.peeling.proofs.Kept.{kept-same}
 use Rattle.climbing.proofs.Levels.{climbed-none}
 use Rattle.climbing.proofs.Unreached.{longest-stops}
-use Rattle.finding.specs.Searches.{riseOf, Tries}
-use Rattle.finding.proofs.Lines.{pairAt, tries-none, tries-some}
+use Rattle.finding.specs.Searches.{riseOf}
+use Rattle.finding.proofs.Lines.{tries-none, tries-some}
 use Rattle.finding.proofs.searches.try_one.Statement.{statement}
 use Rattle.finding.proofs.searches.try_one.Tie as tie
 
@@ -34,47 +33,19 @@ returns-2 c =
     tries-none (s .start-of .ensures) (s .before .before .pre .1 .1 .1 .1 .1) (l .last-of .ensures .kept)
     (λ g t. climbed-none _ _ _ (l .last-of .ensures) (c .if2 .taken) t)
 
--- past the test the last core is a pair of the row or column
-some : (c : tie.Else2)
-    → let l = c .before .before .before in
-    let a = l .before .before .before .before .before .args in
-    Tries (a .order) (a .size) (a .side) (a .fixed) (a .best) (now (a .work)) (l .last-of .last .0) (pairAt (a .side) (a .fixed) (l .last-of .result))
-some c =
-    let l = c .before .before .before in
-    let s = l .before .before .before in
-    let p = s .before .before .pre .1 .1 .1 .1 .0 in
-    tries-some (s .start-of .ensures) (l .last-of .ensures) (p .0) (p .1) (c .if2 .left)
-
-enum-told : tie.Need-enum-told
-enum-told c = search needs
-
-enum-told-2 : tie.Need-enum-told-2
-enum-told-2 c = search needs
+pair-at-requires : tie.Need-pair-at-requires
+pair-at-requires c κs = search needs
 
 same-length-2 : tie.Need-same-length-2
 same-length-2 c = search needs
 
 returns-3 : tie.Need-returns-3
-returns-3 c = rw (c .enum-told .given .1) (rw (c .enum-told .given .1) at (some (c .before .before)))
-
-same-length-3 : tie.Need-same-length-3
-same-length-3 c = search needs
-
-returns-4 : tie.Need-returns-4
-returns-4 c = rw (c .enum-told2 .given .1) (rw (c .enum-told2 .given .1) at (some (c .before .before)))
+returns-3 c =
+    let e = c .before in
+    let l = e .before .before .before in
+    let s = l .before .before .before in
+    let p = s .before .before .pre .1 .1 .1 .1 .0 in
+    rw (c .pair-at .ensures) (tries-some (s .start-of .ensures) (l .last-of .ensures) (p .0) (p .1) (e .if2 .left))
 
 pub try-one-spec : {M : Type 1} → statement M
-try-one-spec =
-    tie.close
-    (tie.spec
-    start-of-requires
-    returns
-    last-of-requires
-    same-length
-    returns-2
-    enum-told
-    enum-told-2
-    same-length-2
-    returns-3
-    same-length-3
-    returns-4)
+try-one-spec = tie.close (tie.spec start-of-requires returns last-of-requires same-length returns-2 pair-at-requires same-length-2 returns-3)

@@ -102,9 +102,11 @@ fn alive(network: &Network) -> Vec<(usize, usize)> {
     numbers.filter(non_empty).collect()
 }
 
-/// x and y of the finding by the definition: the greatest product, then the smallest x; 0 and 0 where there is none.
+/// x and y of the finding by the definition: the greatest product, then the smallest difference, then the smallest x; 0 and 0 where
+/// there is none.
 fn best_of(alive: &[(usize, usize)]) -> (usize, usize) {
-    let best = alive.iter().max_by_key(|&&(x, y)| (x * y, Reverse(x)));
+    let first = |&&(x, y): &&(usize, usize)| (Reverse(x * y), x.abs_diff(y), x);
+    let best = alive.iter().min_by_key(first);
     best.copied().unwrap_or((0, 0))
 }
 

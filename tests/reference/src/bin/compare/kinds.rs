@@ -7,7 +7,7 @@ pub struct Kind {
     links: fn(&mut Draw, usize, usize) -> Vec<Link>,
 }
 
-pub static KINDS: [Kind; 17] = [
+pub static KINDS: [Kind; 18] = [
     Kind {
         name: "random",
         links: random,
@@ -55,6 +55,10 @@ pub static KINDS: [Kind; 17] = [
     Kind {
         name: "equal products",
         links: equal_products,
+    },
+    Kind {
+        name: "ring beside stars",
+        links: ring_beside_stars,
     },
     Kind {
         name: "self links",
@@ -209,17 +213,37 @@ fn hyperbola(_: &mut Draw, n: usize, m: usize) -> Vec<Link> {
     grid(n, (n, n), (0, n / 2), |a, b| (a + 1) * (b + 1) <= limit)
 }
 
-/// Blocks of one area and different sides, apart from each other where the members suffice: products tie.
+/// Blocks of one area and different sides, 1 by 12, 2 by 6, 3 by 4 and so on, apart from each other where the members suffice: products
+/// tie. Which of them have room where the members do not suffice is drawn.
 fn equal_products(draw: &mut Draw, n: usize, m: usize) -> Vec<Link> {
     let area: usize = draw.pick(&[2, 4, 6, 12, 36, 60, 120, 360]);
+    let mut sides: Vec<usize> = (1..=area).filter(|x| area % x == 0).collect();
+    draw.shuffle(&mut sides);
     let mut links = Vec::new();
     let mut corner = (0, 0);
-    for x in (1..=area).filter(|&x| area % x == 0) {
+    for x in sides {
         let size = (area / x, x);
         if links.len() + area <= m && corner.0 + size.0 <= n && corner.1 + size.1 <= n {
             links.extend(grid(n, size, corner, |_, _| true));
             corner = (corner.0 + size.0, corner.1 + size.1);
         }
+    }
+    links
+}
+
+/// A block beside a star in and a star out of as many links as it has, or one of these, now and then with a link more: products tie, or
+/// the star comes first by one.
+fn ring_beside_stars(draw: &mut Draw, n: usize, _: usize) -> Vec<Link> {
+    let most = root(n / 2).max(2);
+    let (x, y) = (draw.among(2, most), draw.among(2, most));
+    let mut links = grid(n, (y, x), (0, 0), |_, _| true);
+    let which = draw.below(3);
+    let count = x * y + draw.one_in(5) as usize;
+    if which != 1 {
+        links.extend(grid(n, (count, 1), (y, x), |_, _| true));
+    }
+    if which != 2 {
+        links.extend(grid(n, (1, count), (y + count, x + 1), |_, _| true));
     }
     links
 }

@@ -44,12 +44,12 @@ const PARTS: [Part; 12] = [
     },
     Part {
         name: "medium",
-        cases: 340,
+        cases: 360,
         run: networks::medium,
     },
     Part {
         name: "full",
-        cases: 51,
+        cases: 54,
         run: networks::full,
     },
     Part {
@@ -89,7 +89,7 @@ const PARTS: [Part; 12] = [
     },
     Part {
         name: "program",
-        cases: 306,
+        cases: 324,
         run: program::program,
     },
 ];

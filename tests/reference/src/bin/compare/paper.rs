@@ -1,4 +1,5 @@
-//! The examples and limits that 01 names, and the layers of these examples as worked out by hand, by the reference and by the library.
+//! The examples and limits that the papers name, and the layers of these examples as worked out by hand, by the reference and by the
+//! library.
 use crate::calls::try_all;
 use crate::case::Case;
 use cogsplice::lent::{
@@ -53,6 +54,7 @@ pub fn paper(case: &mut Case) {
     set(case, "P7", 6, &[(0, 1), (0, 2), (3, 5), (4, 5)]);
     expect_finding(case, [1, 2, 1, 2], &[3, 4], &[5]);
     expect_layers(case, [4, work_length(6, 4)], (0, 2), &[2, 2, 1, 1]);
+    expect_even_pairs(case);
     set(case, "P8", 1, &[(0, 0)]);
     expect_finding(case, [1, 1, 1, 1], &[0], &[0]);
     expect_layers(case, [1, work_length(1, 1)], (0, 1), &[1]);
@@ -65,6 +67,22 @@ pub fn paper(case: &mut Case) {
     expect_no_bytes(case);
     expect_short(case);
     expect_limits(case);
+}
+
+/// An even pair comes before a star of the same product: 02's example, and the rings [1,12], [2,6], [3,4], [4,3], [6,2] and [12,1].
+fn expect_even_pairs(case: &mut Case) {
+    case.kind = "star and ring".into();
+    case.file = encode(&Network::star_and_ring());
+    expect_finding(case, [2, 2, 2, 4], &[5, 6], &[7, 8]);
+    let layers = [2, 2, 2, 2, 1, 1, 1, 1];
+    expect_layers(case, [8, work_length(9, 8)], (0, 2), &layers);
+    try_all(case);
+    case.kind = "rings of product 12".into();
+    case.file = encode(&Network::rings(12));
+    expect_finding(case, [3, 4, 3, 12], &[18, 19, 20, 21], &[31, 32, 33]);
+    let layers = [5, 3, 1, 2, 4, 6].map(|layer| [layer; 12]).concat();
+    expect_layers(case, [72, work_length(56, 72)], (0, 6), &layers);
+    try_all(case);
 }
 
 fn expect_core(case: &mut Case, x: u16, y: u16, edges: u32, s: &[usize], t: &[usize]) {
