@@ -19,7 +19,10 @@ static void print_group(const char *name, const uint8_t *group, size_t n) {
 int main(int argc, char **argv) {
     size_t length;
     const uint8_t *file = network_file(argc, argv, &length);
-    struct cogsplice_finding_numbers found = cogsplice_finding(file, length, s, sizeof s, t, sizeof t, work, sizeof work / sizeof *work);
+    const uint8_t *all = everyone();
+    struct cogsplice_finding_numbers found = cogsplice_finding(
+        file, length, all, COGSPLICE_MEMBERS, all, COGSPLICE_MEMBERS,
+        s, sizeof s, t, sizeof t, work, sizeof work / sizeof *work);
     if (found.refusal != COGSPLICE_ACCEPTED) {
         print_refusal(found.refusal, found.link);
         return 0;

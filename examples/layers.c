@@ -15,8 +15,10 @@ static unsigned number_at(const uint8_t *file, size_t offset) {
 int main(int argc, char **argv) {
     size_t length;
     const uint8_t *file = network_file(argc, argv, &length);
-    struct cogsplice_layers_numbers found =
-        cogsplice_layers(file, length, layers, sizeof layers / sizeof *layers, work, sizeof work / sizeof *work);
+    const uint8_t *all = everyone();
+    struct cogsplice_layers_numbers found = cogsplice_layers(
+        file, length, all, COGSPLICE_MEMBERS, all, COGSPLICE_MEMBERS,
+        layers, sizeof layers / sizeof *layers, work, sizeof work / sizeof *work);
     if (found.refusal != COGSPLICE_ACCEPTED) {
         print_refusal(found.refusal, found.link);
         return 0;

@@ -1,4 +1,4 @@
-/* What the examples share: the file that they look at, and the line of a refusal. */
+/* What the examples share: the file that they look at, a group of everyone to search in, and the line of a refusal. */
 #include "cogsplice.h"
 
 #include <stdio.h>
@@ -26,6 +26,13 @@ static const uint8_t *network_file(int argc, char **argv, size_t *length) {
     }
     *length = sizeof network_w;
     return network_w;
+}
+
+/* A group that everyone is in: as A and as B it has the whole network searched. */
+static const uint8_t *everyone(void) {
+    static uint8_t group[COGSPLICE_GROUP(COGSPLICE_MEMBERS)];
+    memset(group, 1, sizeof group);
+    return group;
 }
 
 static void print_refusal(uint16_t refusal, uint16_t link) {

@@ -16,6 +16,10 @@
  * A group is a table of bytes, one for each member: 1 in, 0 out. S is the group of vouchers, T that of the vouched. E(S,T) is
  * the number of links whose voucher is in S and whose vouched member is in T.
  *
+ * Core, level, level across, equal level, finding and layers search inside two further groups, A and B: S lies in A, T in B. Every
+ * other pair that they speak of lies so too. The groups may overlap, and either may be empty; with everyone in both the whole network
+ * is searched. They are read, and never written.
+ *
  * Every answer has `refusal`: 0 where the call was accepted, else one of COGSPLICE_REFUSED_.., the lowest that applies. Of a
  * refused call every other number is 0, but for `link`, and no table has changed. `link` is the link's number for refusals 7 and 8,
  * else 0. A table may be longer than the call needs: what lies past the needed entries is neither read nor changed.
@@ -36,7 +40,7 @@ extern "C" {
 
 /* The entries that a table needs, for a file of n members and m links. */
 #define COGSPLICE_FILE(m) (9 + 4 * (size_t)(m))                           /* uint8_t: a network file, the output of the writer */
-#define COGSPLICE_GROUP(n) ((size_t)(n))                                  /* uint8_t: S, T */
+#define COGSPLICE_GROUP(n) ((size_t)(n))                                  /* uint8_t: S, T, A, B */
 #define COGSPLICE_STARTS(n) ((size_t)(n) + 1)                             /* uint16_t: out_starts, in_starts */
 #define COGSPLICE_ROWS(m) ((size_t)(m))                                   /* uint16_t: out_rows, in_rows */
 #define COGSPLICE_LAYERS(m) ((size_t)(m))                                 /* uint16_t: layers */
@@ -54,7 +58,7 @@ enum {
     COGSPLICE_REFUSED_REPEAT = 8,   /* a link repeats an earlier one; the first such link, tested after 7 over all links */
     COGSPLICE_REFUSED_TABLE = 9,    /* a lent table is shorter than the call needs */
     COGSPLICE_REFUSED_MEMBER = 10,  /* row: the member is not below n */
-    COGSPLICE_REFUSED_GROUP = 11,   /* count: a byte among the first n of a group is neither 0 nor 1 */
+    COGSPLICE_REFUSED_GROUP = 11,   /* a byte among the first n of A, of B, or of a group that count is given, is neither 0 nor 1 */
     COGSPLICE_REFUSED_ZERO = 12,    /* level, level across: asked for 0 */
     /* 13 is retired: it is never given again, nor used for something else */
     COGSPLICE_REFUSED_ROW = 14      /* row: the member's start is above the next start, or that is above the length of the rows table */
@@ -148,50 +152,63 @@ uint16_t cogsplice_row_refusal(
     const uint16_t *in_starts, size_t in_starts_length,
     const uint16_t *in_rows, size_t in_rows_length);
 
-/* Writes the [x,y]-core to s and t: the largest pair in which each member of S has at least x links into T and each member of T at
- * least y from S. Both groups may be empty. Refusals 1 to 8, 9. */
+/* Writes the [x,y]-core inside A and B to s and t: the largest pair, S inside A and T inside B, in which each member of S has at least x
+ * links into T and each member of T at least y from S. For x = 0 S is A, for y = 0 T is B. Both groups may be empty. Refusals 1 to 8, 9,
+ * 11. */
 struct cogsplice_totals_numbers cogsplice_core(
     const uint8_t *file, size_t file_length,
+    const uint8_t *a, size_t a_length,
+    const uint8_t *b, size_t b_length,
     uint16_t x, uint16_t y,
     uint8_t *s, size_t s_length,
     uint8_t *t, size_t t_length,
     uint16_t *work, size_t work_length);
 
-/* The level of x: the largest y of at least 1 with a non-empty [x,y]-core, or 0. Refusals 1 to 8, 9, 12. */
+/* The level of x: the largest y of at least 1 with a non-empty [x,y]-core inside A and B, or 0. Refusals 1 to 8, 9, 11, 12. */
 struct cogsplice_level_numbers cogsplice_level(
     const uint8_t *file, size_t file_length,
+    const uint8_t *a, size_t a_length,
+    const uint8_t *b, size_t b_length,
     uint16_t x,
     uint16_t *work, size_t work_length);
 
-/* The level across, for y: the largest x of at least 1 with a non-empty [x,y]-core, or 0. Refusals 1 to 8, 9, 12. */
+/* The level across, for y: the largest x of at least 1 with a non-empty [x,y]-core inside A and B, or 0. Refusals 1 to 8, 9, 11, 12. */
 struct cogsplice_level_numbers cogsplice_level_across(
     const uint8_t *file, size_t file_length,
+    const uint8_t *a, size_t a_length,
+    const uint8_t *b, size_t b_length,
     uint16_t y,
     uint16_t *work, size_t work_length);
 
-/* The equal level: the largest k with a non-empty [k,k]-core, or 0. Refusals 1 to 8, 9. */
+/* The equal level: the largest k with a non-empty [k,k]-core inside A and B, or 0. Refusals 1 to 8, 9, 11. */
 struct cogsplice_level_numbers cogsplice_equal_level(
     const uint8_t *file, size_t file_length,
+    const uint8_t *a, size_t a_length,
+    const uint8_t *b, size_t b_length,
     uint16_t *work, size_t work_length);
 
-/* Writes the finding to s and t: the non-empty [x,y]-core, x and y at least 1, with the greatest x * y; among equal products the
- * smallest difference between x and y comes first, then the smallest x. No pair of groups is more than twice as dense, where the
- * density of S and T is E(S,T) / sqrt(|S| * |T|). Where the file has no link, the month is quiet: all numbers are 0 and both groups are
- * empty. x * y is 0 exactly then. Refusals 1 to 8, 9. */
+/* Writes the finding inside A and B to s and t: the non-empty [x,y]-core inside them, x and y at least 1, with the greatest x * y; among
+ * equal products the smallest difference between x and y comes first, then the smallest x. No pair of groups inside A and B is more than
+ * twice as dense, where the density of S and T is E(S,T) / sqrt(|S| * |T|). Where no link goes from A to B, the month is quiet: all numbers
+ * are 0 and both groups are empty. x * y is 0 exactly then. Refusals 1 to 8, 9, 11. */
 struct cogsplice_finding_numbers cogsplice_finding(
     const uint8_t *file, size_t file_length,
+    const uint8_t *a, size_t a_length,
+    const uint8_t *b, size_t b_length,
     uint8_t *s, size_t s_length,
     uint8_t *t, size_t t_length,
     uint16_t *work, size_t work_length);
 
-/* Takes the links between the two groups of the finding out, searches what remains, and goes on until no link remains. Writes the
- * layer of each link, counted from 1, into the first COGSPLICE_LAYERS(m) entries of layers, in the order of the file. Each link has
- * one layer from 1 to K: layer l is, of the links still in at its start, those between the two groups of their finding. The layers' E
- * add up to m, and x * y never rises from a layer to the next. In each layer the finding's bound holds over the links still in at its
- * start: for all non-empty S and T, E(S,T) squared is at most 4 * x * y * |S| * |T|. Where the file has no link, K is 0. Refusals 1 to
- * 8, 9. */
+/* Takes the links between the two groups of the finding inside A and B out, searches what remains, and goes on until no link from A to B
+ * remains. Writes the layer of each link into the first COGSPLICE_LAYERS(m) entries of layers, in the order of the file. Each link from A
+ * to B has one layer from 1 to K: layer l is, of the links still in at its start, those between the two groups of their finding. Every
+ * other link of the file gets 0. The layers' E add up to the number of links from A to B, and x * y never rises from a layer to the next.
+ * In each layer the finding's bound holds over the links still in at its start: for all non-empty S inside A and T inside B, E(S,T) squared
+ * is at most 4 * x * y * |S| * |T|. Where no link goes from A to B, K is 0. Refusals 1 to 8, 9, 11. */
 struct cogsplice_layers_numbers cogsplice_layers(
     const uint8_t *file, size_t file_length,
+    const uint8_t *a, size_t a_length,
+    const uint8_t *b, size_t b_length,
     uint16_t *layers, size_t layers_length,
     uint16_t *work, size_t work_length);
 

@@ -16,7 +16,7 @@ static const uint8_t nobody[] = {'V', 'C', 'H', 1, 0, 0, 0, 0, 0};
 #define NONE NULL, 0
 #define ALL(table) table, sizeof table / sizeof *table
 
-static uint8_t s[6], t[6], out[COGSPLICE_FILE(8)];
+static uint8_t a[6], b[6], s[6], t[6], out[COGSPLICE_FILE(8)];
 static uint16_t starts[7], other_starts[7], rows[8], other_rows[8], layers[COGSPLICE_LAYERS(8)], work[COGSPLICE_WORK(6, 8)];
 static int faults;
 
@@ -37,17 +37,29 @@ static void no_table(void) {
     EXPECT(9, cogsplice_index(W, ALL(starts), NONE, ALL(other_starts), ALL(other_rows)));
     EXPECT(9, cogsplice_index(W, ALL(starts), ALL(rows), NONE, ALL(other_rows)));
     EXPECT(9, cogsplice_index(W, ALL(starts), ALL(rows), ALL(other_starts), NONE));
-    EXPECT(9, cogsplice_core(W, 1, 1, NONE, ALL(t), ALL(work)));
-    EXPECT(9, cogsplice_core(W, 1, 1, ALL(s), NONE, ALL(work)));
-    EXPECT(9, cogsplice_core(W, 1, 1, ALL(s), ALL(t), NONE));
-    EXPECT(9, cogsplice_level(W, 1, NONE));
-    EXPECT(9, cogsplice_level_across(W, 1, NONE));
-    EXPECT(9, cogsplice_equal_level(W, NONE));
-    EXPECT(9, cogsplice_finding(W, NONE, ALL(t), ALL(work)));
-    EXPECT(9, cogsplice_finding(W, ALL(s), NONE, ALL(work)));
-    EXPECT(9, cogsplice_finding(W, ALL(s), ALL(t), NONE));
-    EXPECT(9, cogsplice_layers(W, NONE, ALL(work)));
-    EXPECT(9, cogsplice_layers(W, ALL(layers), NONE));
+    EXPECT(9, cogsplice_core(W, NONE, ALL(b), 1, 1, ALL(s), ALL(t), ALL(work)));
+    EXPECT(9, cogsplice_core(W, ALL(a), NONE, 1, 1, ALL(s), ALL(t), ALL(work)));
+    EXPECT(9, cogsplice_core(W, ALL(a), ALL(b), 1, 1, NONE, ALL(t), ALL(work)));
+    EXPECT(9, cogsplice_core(W, ALL(a), ALL(b), 1, 1, ALL(s), NONE, ALL(work)));
+    EXPECT(9, cogsplice_core(W, ALL(a), ALL(b), 1, 1, ALL(s), ALL(t), NONE));
+    EXPECT(9, cogsplice_level(W, NONE, ALL(b), 1, ALL(work)));
+    EXPECT(9, cogsplice_level(W, ALL(a), NONE, 1, ALL(work)));
+    EXPECT(9, cogsplice_level(W, ALL(a), ALL(b), 1, NONE));
+    EXPECT(9, cogsplice_level_across(W, NONE, ALL(b), 1, ALL(work)));
+    EXPECT(9, cogsplice_level_across(W, ALL(a), NONE, 1, ALL(work)));
+    EXPECT(9, cogsplice_level_across(W, ALL(a), ALL(b), 1, NONE));
+    EXPECT(9, cogsplice_equal_level(W, NONE, ALL(b), ALL(work)));
+    EXPECT(9, cogsplice_equal_level(W, ALL(a), NONE, ALL(work)));
+    EXPECT(9, cogsplice_equal_level(W, ALL(a), ALL(b), NONE));
+    EXPECT(9, cogsplice_finding(W, NONE, ALL(b), ALL(s), ALL(t), ALL(work)));
+    EXPECT(9, cogsplice_finding(W, ALL(a), NONE, ALL(s), ALL(t), ALL(work)));
+    EXPECT(9, cogsplice_finding(W, ALL(a), ALL(b), NONE, ALL(t), ALL(work)));
+    EXPECT(9, cogsplice_finding(W, ALL(a), ALL(b), ALL(s), NONE, ALL(work)));
+    EXPECT(9, cogsplice_finding(W, ALL(a), ALL(b), ALL(s), ALL(t), NONE));
+    EXPECT(9, cogsplice_layers(W, NONE, ALL(b), ALL(layers), ALL(work)));
+    EXPECT(9, cogsplice_layers(W, ALL(a), NONE, ALL(layers), ALL(work)));
+    EXPECT(9, cogsplice_layers(W, ALL(a), ALL(b), NONE, ALL(work)));
+    EXPECT(9, cogsplice_layers(W, ALL(a), ALL(b), ALL(layers), NONE));
 }
 
 /* Of a network without members and links, groups, rows and layers of no entries are long enough. */
@@ -56,12 +68,12 @@ static void enough(const uint8_t *file, size_t length) {
     EXPECT(0, cogsplice_count(file, length, NONE, NONE));
     EXPECT(0, cogsplice_write(file, length, ALL(out)));
     EXPECT(0, cogsplice_index(file, length, ALL(starts), NONE, ALL(other_starts), NONE));
-    EXPECT(0, cogsplice_core(file, length, 1, 1, NONE, NONE, ALL(work)));
-    EXPECT(0, cogsplice_level(file, length, 1, ALL(work)));
-    EXPECT(0, cogsplice_level_across(file, length, 1, ALL(work)));
-    EXPECT(0, cogsplice_equal_level(file, length, ALL(work)));
-    EXPECT(0, cogsplice_finding(file, length, NONE, NONE, ALL(work)));
-    EXPECT(0, cogsplice_layers(file, length, NONE, ALL(work)));
+    EXPECT(0, cogsplice_core(file, length, NONE, NONE, 1, 1, NONE, NONE, ALL(work)));
+    EXPECT(0, cogsplice_level(file, length, NONE, NONE, 1, ALL(work)));
+    EXPECT(0, cogsplice_level_across(file, length, NONE, NONE, 1, ALL(work)));
+    EXPECT(0, cogsplice_equal_level(file, length, NONE, NONE, ALL(work)));
+    EXPECT(0, cogsplice_finding(file, length, NONE, NONE, NONE, NONE, ALL(work)));
+    EXPECT(0, cogsplice_layers(file, length, NONE, NONE, NONE, ALL(work)));
 }
 
 /* Outputs, starts and work tables of no entries are too short for every network. */
@@ -69,12 +81,12 @@ static void not_enough(const uint8_t *file, size_t length) {
     EXPECT(9, cogsplice_write(file, length, NONE));
     EXPECT(9, cogsplice_index(file, length, NONE, NONE, ALL(other_starts), NONE));
     EXPECT(9, cogsplice_index(file, length, ALL(starts), NONE, NONE, NONE));
-    EXPECT(9, cogsplice_core(file, length, 1, 1, NONE, NONE, NONE));
-    EXPECT(9, cogsplice_level(file, length, 1, NONE));
-    EXPECT(9, cogsplice_level_across(file, length, 1, NONE));
-    EXPECT(9, cogsplice_equal_level(file, length, NONE));
-    EXPECT(9, cogsplice_finding(file, length, NONE, NONE, NONE));
-    EXPECT(9, cogsplice_layers(file, length, NONE, NONE));
+    EXPECT(9, cogsplice_core(file, length, NONE, NONE, 1, 1, NONE, NONE, NONE));
+    EXPECT(9, cogsplice_level(file, length, NONE, NONE, 1, NONE));
+    EXPECT(9, cogsplice_level_across(file, length, NONE, NONE, 1, NONE));
+    EXPECT(9, cogsplice_equal_level(file, length, NONE, NONE, NONE));
+    EXPECT(9, cogsplice_finding(file, length, NONE, NONE, NONE, NONE, NONE));
+    EXPECT(9, cogsplice_layers(file, length, NONE, NONE, NONE, NONE));
 }
 
 static void row(unsigned refusal, bool side, const uint16_t *table, size_t length) {

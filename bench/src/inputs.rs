@@ -2,17 +2,22 @@
 use networks::{encode, Draw, Link, Network};
 
 /// A network file and what it is called in the tables.
+#[derive(Clone)]
 pub struct Input {
     pub name: String,
     pub n: usize,
     pub m: usize,
     pub file: Vec<u8>,
+    /// The groups A and B that the calls search inside.
+    pub a: Vec<u8>,
+    pub b: Vec<u8>,
     /// Two groups for the count, each member in with a chance of one half.
     pub s: Vec<u8>,
     pub t: Vec<u8>,
 }
 
 impl Input {
+    /// A network that is searched with everyone in A and B.
     fn new(name: &str, network: &Network, random: &mut Draw) -> Self {
         let n = network.n;
         let mut group = || (0..n).map(|_| random.below(2) as u8).collect();
@@ -21,8 +26,21 @@ impl Input {
             n,
             m: network.links.len(),
             file: encode(network),
+            a: vec![1; n],
+            b: vec![1; n],
             s: group(),
             t: group(),
+        }
+    }
+
+    /// The same network, searched with every other member in A and B.
+    pub fn half(&self) -> Self {
+        let group: Vec<u8> = (0..self.n).map(|member| (member % 2 == 0) as u8).collect();
+        Self {
+            name: format!("{}, half of the members", self.name),
+            a: group.clone(),
+            b: group,
+            ..self.clone()
         }
     }
 }
@@ -116,6 +134,9 @@ fn rings(product: usize, random: &mut Draw) -> Vec<Link> {
     random.shuffle(&mut links);
     links
 }
+
+/// The shapes that are searched among half of their members too.
+pub const HALVED: [&str; 2] = ["random", "planted pair of 40 and 30"];
 
 /// Networks of many shapes.
 pub fn shapes() -> Vec<Input> {

@@ -5,13 +5,28 @@ mod plain;
 mod report;
 mod sides;
 
-use measure::measure;
+use inputs::{growing, shapes, HALVED};
+use measure::{measure, Halved};
+use sides::Call;
 use std::path::Path;
 
 fn main() -> std::io::Result<()> {
-    let shapes: Vec<_> = inputs::shapes().into_iter().map(measure).collect();
-    let growth: Vec<_> = inputs::growing().into_iter().map(measure).collect();
-    let text = report::report(&shapes, &growth);
+    let all = |inputs: Vec<_>| -> Vec<_> {
+        let inputs = inputs.into_iter();
+        inputs.map(|input| measure(input, &Call::ALL)).collect()
+    };
+    let shapes = all(shapes());
+    let halved = shapes
+        .iter()
+        .filter(|one| HALVED.contains(&&one.input.name[..]));
+    let halves: Vec<_> = halved
+        .map(|whole| Halved {
+            whole,
+            half: measure(whole.input.half(), &Call::INSIDE),
+        })
+        .collect();
+    let growth = all(growing());
+    let text = report::report(&shapes, &halves, &growth);
     print!("{text}");
     let page = Path::new(env!("CARGO_MANIFEST_DIR")).join("../docs/BENCHMARKS.md");
     std::fs::write(page, text)

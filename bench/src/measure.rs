@@ -22,22 +22,28 @@ impl Times {
     }
 }
 
-/// A network, the number of its layers and the times of all calls on it.
+/// A network, the number of its layers and the times of the calls on it.
 pub struct Measured {
     pub input: Input,
     pub layers: usize,
-    pub times: [Times; Call::ALL.len()],
+    pub times: Vec<Times>,
 }
 
 impl Measured {
     pub fn of(&self, call: Call) -> &Times {
         let found = self.times.iter().find(|times| times.call == call);
-        found.expect("every call is timed")
+        found.expect("the call was timed")
     }
 }
 
-/// Compares the answers of both sides, then times each call.
-pub fn measure(input: Input) -> Measured {
+/// A network searched among all of its members, and among half of them, where only the calls that search are timed.
+pub struct Halved<'a> {
+    pub whole: &'a Measured,
+    pub half: Measured,
+}
+
+/// Compares the answers of both sides, then times these calls.
+pub fn measure(input: Input, calls: &[Call]) -> Measured {
     let mut library = Library::new(&input);
     let mut plain = PlainRust::new(&input);
     let quiet = [&input.file[..7], &[0, 0]].concat();
@@ -46,12 +52,14 @@ pub fn measure(input: Input) -> Measured {
         compare(&mut library, &mut plain, file, &input);
     }
     compare_refusals(&mut library, &mut plain, &input);
+    compare_faulty_groups(&mut library, &mut plain, &input);
     let [_, _, layers, ..] = plain.call(Call::Layers, &input.file, &input);
-    let times = Call::ALL.map(|call| time(&mut library, &mut plain, call, &input));
+    let timed = calls.iter();
+    let times = timed.map(|&call| time(&mut library, &mut plain, call, &input));
     Measured {
+        times: times.collect(),
         input,
         layers,
-        times,
     }
 }
 
@@ -92,6 +100,20 @@ fn compare_refusals(library: &mut Library, plain: &mut PlainRust, input: &Input)
             let told = library.call(call, &file, input);
             assert_eq!(told, plain.call(call, &file, input));
             assert_eq!(told[0], number);
+        }
+    }
+}
+
+/// A byte of A or of B that is neither 0 nor 1: both sides refuse every call that searches inside them.
+fn compare_faulty_groups(library: &mut Library, plain: &mut PlainRust, input: &Input) {
+    let mut faulty = [input.clone(), input.clone()];
+    faulty[0].a[0] = 2;
+    faulty[1].b[input.n - 1] = 255;
+    for input in &faulty {
+        for call in Call::INSIDE {
+            let told = library.call(call, &input.file, input);
+            assert_eq!(told, plain.call(call, &input.file, input));
+            assert_eq!(told[0], 11);
         }
     }
 }

@@ -5,7 +5,9 @@ mod network;
 mod peel;
 
 use chunks::chunks_mut;
-use network::{counted, fill_starts, next_place, source, target, Network, Sorter, HEADER_LENGTH};
+use network::{
+    counted, fill_starts, next_place, source, target, Link, Network, Sorter, HEADER_LENGTH,
+};
 use peel::{Need, Peel, Rise};
 use std::cmp::Reverse;
 
@@ -32,6 +34,17 @@ impl Refusal {
         }
         Ok(())
     }
+
+    /// The first n bytes of two groups; refusal 9 where there are fewer, 11 where one of them is neither 0 nor 1.
+    fn of_groups(n: usize, groups: [&[u8]; 2]) -> Result<[&[u8]; 2], Self> {
+        Self::of_tables(&groups.map(|group| (group.len(), n)))?;
+        let groups = groups.map(|group| &group[..n]);
+        let fits = |group: &&[u8]| group.iter().fold(true, |fits, &byte| fits & (byte <= 1));
+        if !groups.iter().all(fits) {
+            return Err(Self::of(11));
+        }
+        Ok(groups)
+    }
 }
 
 /// The four tables of an index.
@@ -48,7 +61,9 @@ pub struct Plain {
     sorter: Sorter,
     peel: Peel,
     ends: Vec<u16>,
-    /// The numbers of the links that no layer has yet, ascending.
+    /// The links from A to B.
+    inside: Vec<Link>,
+    /// The numbers of the links from A to B that no layer has yet, ascending.
     left: Vec<u16>,
 }
 
@@ -62,13 +77,9 @@ impl Plain {
     /// E(S,T), |S| and |T|.
     pub fn count(&mut self, file: &[u8], s: &[u8], t: &[u8]) -> Result<[usize; 3], Refusal> {
         let Network { n, links, .. } = self.sorter.accept(file)?;
-        Refusal::of_tables(&[(s.len(), n), (t.len(), n)])?;
-        let (s, t) = (&s[..n], &t[..n]);
-        if s.iter().chain(t).any(|&byte| byte > 1) {
-            return Err(Refusal::of(11));
-        }
-        let between = |link| usize::from(s[source(link)] & t[target(link)]);
-        let edges = links.iter().map(|&link| between(link)).sum();
+        let [s, t] = Refusal::of_groups(n, [s, t])?;
+        let between = |&link| usize::from(is_between(link, [s, t]));
+        let edges = links.iter().map(between).sum();
         Ok([edges, size_of(s), size_of(t)])
     }
 
@@ -106,49 +117,82 @@ impl Plain {
         Ok([])
     }
 
-    /// Writes the [x,y]-core and returns E, |S| and |T|.
+    /// Writes the [x,y]-core inside A and B and returns E, |S| and |T|.
     pub fn core(
         &mut self,
         file: &[u8],
+        inside: [&[u8]; 2],
         [x, y]: [u16; 2],
         s: &mut [u8],
         t: &mut [u8],
     ) -> Result<[usize; 3], Refusal> {
         let Network { n, links, .. } = self.sorter.accept(file)?;
         Refusal::of_tables(&[(s.len(), n), (t.len(), n)])?;
-        self.peel.load(n, links.iter());
-        Ok(self.peel.core(Need { x, y }, s, t))
+        let inside = Refusal::of_groups(n, inside)?;
+        self.load(n, links, inside);
+        Ok(self.peel.core(Need { x, y }, inside, s, t))
     }
 
-    /// Writes the finding and returns x, y, the equal level, E, |S| and |T|. Without links all are 0 and both groups empty.
+    /// The level of x inside A and B.
+    pub fn level(
+        &mut self,
+        file: &[u8],
+        inside: [&[u8]; 2],
+        x: u16,
+    ) -> Result<[usize; 1], Refusal> {
+        let Network { n, links, .. } = self.sorter.accept(file)?;
+        let inside = Refusal::of_groups(n, inside)?;
+        if x == 0 {
+            return Err(Refusal::of(12));
+        }
+        self.load(n, links, inside);
+        let longest = self.peel.longest_rows();
+        let level = last_from(&mut self.peel, Rise::Y, x, 1, longest.y);
+        Ok([level.into()])
+    }
+
+    /// Writes the finding inside A and B and returns x, y, the equal level, E, |S| and |T|. Without links from A to B all are 0 and both
+    /// groups empty.
     pub fn finding(
         &mut self,
         file: &[u8],
+        inside: [&[u8]; 2],
         s: &mut [u8],
         t: &mut [u8],
     ) -> Result<[usize; 6], Refusal> {
         let Network { n, links, .. } = self.sorter.accept(file)?;
         Refusal::of_tables(&[(s.len(), n), (t.len(), n)])?;
-        if links.is_empty() {
+        let inside = Refusal::of_groups(n, inside)?;
+        if !self.load(n, links, inside) {
             s[..n].fill(0);
             t[..n].fill(0);
             return Ok([0; 6]);
         }
-        self.peel.load(n, links.iter());
         let (equal, best) = search(&mut self.peel);
-        let [edges, sources, targets] = self.peel.core(best, s, t);
+        let [edges, sources, targets] = self.peel.core(best, inside, s, t);
         let [x, y, equal] = [best.x, best.y, equal].map(usize::from);
         Ok([x, y, equal, edges, sources, targets])
     }
 
     /// Writes the layer of each link and returns the number of layers. A layer is the links between the groups of the finding among
-    /// the links that are left.
-    pub fn layers(&mut self, file: &[u8], layers: &mut [u16]) -> Result<[usize; 1], Refusal> {
+    /// the links from A to B that are left; every other link gets 0.
+    pub fn layers(
+        &mut self,
+        file: &[u8],
+        inside: [&[u8]; 2],
+        layers: &mut [u16],
+    ) -> Result<[usize; 1], Refusal> {
         let Network { n, links, .. } = self.sorter.accept(file)?;
         Refusal::of_tables(&[(layers.len(), links.len())])?;
+        let inside = Refusal::of_groups(n, inside)?;
+        layers[..links.len()].fill(0);
         let Self { peel, left, .. } = self;
-        left.clear();
-        left.extend(0..links.len() as u16);
+        if are_everyone(inside) {
+            left.clear();
+            left.extend(0..links.len() as u16);
+        } else {
+            list_inside(links, inside, |number, _| number, left);
+        }
         let mut layer = 0;
         while !left.is_empty() {
             peel.load(n, left.iter().map(|&number| &links[usize::from(number)]));
@@ -167,6 +211,46 @@ impl Plain {
         }
         Ok([layer.into()])
     }
+
+    /// Has the peel take the links from A to B over, and tells whether there are any. With everyone in both groups these are all links.
+    fn load(&mut self, n: usize, links: &[Link], inside: [&[u8]; 2]) -> bool {
+        if are_everyone(inside) {
+            self.peel.load(n, links.iter());
+            return !links.is_empty();
+        }
+        list_inside(links, inside, |_, link| link, &mut self.inside);
+        self.peel.load(n, self.inside.iter());
+        !self.inside.is_empty()
+    }
+}
+
+/// Whether everyone is in both groups. No branch depends on a byte, so that many are looked at together.
+fn are_everyone(groups: [&[u8]; 2]) -> bool {
+    let all = |group: &[u8]| group.iter().fold(true, |all, &byte| all & (byte == 1));
+    groups.into_iter().all(all)
+}
+
+/// Lists what `of` makes of the number of each link from A to B and of the link. Each is written to the next free entry in any case, and
+/// counted if it goes from A to B: no branch depends on the groups.
+fn list_inside<T: Clone + Default>(
+    links: &[Link],
+    inside: [&[u8]; 2],
+    of: impl Fn(u16, Link) -> T,
+    list: &mut Vec<T>,
+) {
+    list.resize(links.len(), T::default());
+    let entries = &mut list[..];
+    let mut count = 0;
+    for (number, &link) in links.iter().enumerate() {
+        entries[count] = of(number as u16, link);
+        count += usize::from(is_between(link, inside));
+    }
+    list.truncate(count);
+}
+
+/// 1 where a link goes from one group to the other, else 0.
+fn is_between(link: Link, [s, t]: [&[u8]; 2]) -> u8 {
+    s[source(link)] & t[target(link)]
 }
 
 /// Fills the in-rows from the out-rows. Those come by voucher, so that each row is filled by voucher and nothing is sorted again.

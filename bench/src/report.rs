@@ -1,5 +1,5 @@
 //! The text of the measurements.
-use crate::measure::{Measured, ROUND, ROUNDS};
+use crate::measure::{Halved, Measured, Times, ROUND, ROUNDS};
 use crate::sides::Call;
 use std::fmt::Write;
 use std::process::Command;
@@ -35,15 +35,16 @@ const GOALS: [Goal; 5] = [
 ];
 
 /// Whatever is measured, for the screen and for docs/BENCHMARKS.md.
-pub fn report(shapes: &[Measured], growth: &[Measured]) -> String {
-    let [how, goals, times, growing] = [
+pub fn report(shapes: &[Measured], halves: &[Halved], growth: &[Measured]) -> String {
+    let [how, goals, times, among_half, growing] = [
         how_measured(),
-        goal_table(shapes, growth),
+        goal_table(shapes, halves, growth),
         time_table(shapes),
+        half_table(halves),
         growth_tables(growth),
     ];
     format!(
-        "# Benchmarks\n\n{how}\n## Goals\n\n{goals}\n## Times\n\n{times}\n## Growth\n\n{growing}"
+        "# Benchmarks\n\n{how}\n## Goals\n\n{goals}\n## Times\n\n{times}\n## Half of the members\n\n{among_half}\n## Growth\n\n{growing}"
     )
 }
 
@@ -58,26 +59,30 @@ fn how_measured() -> String {
 - Machine: {machine}
 - Compiler of the plain Rust: {compiler}, opt-level 3
 
-Before the calls on a network are timed, both sides must give the same answers, the same tables, and the same refusals of damaged files.
+Before the calls on a network are timed, both sides must give the same answers, the same tables, and the same refusals of damaged files
+and of a faulty A or B.
 Then each call is timed, the two sides turn by turn, in {ROUNDS} rounds of at least {round} ms for each side. The least time of one
 call counts, in microseconds. The ratio is the library's time divided by that of plain Rust.
 
 Both sides check the file in every call, run in one thread, and write to tables that are lent to them. Nothing clears these tables
 between calls. What plain Rust sorts and peels in is kept from call to call, so that no allocation is timed. It sorts the links at
 most once in a call, and ends a peel as soon as a side is empty. Library and plain Rust both take the level of 1 from the longest
-row, and begin a climb with the side that rises. For the layers plain Rust keeps a list of the links that no layer has yet, and
-searches these anew for each layer.
-Unless a file is called ascending, its links stand in random order.
+row, and begin a climb with the side that rises. Both ask first whether everyone is in A and B, and else list the links from A to B in
+one pass and search among these; for the layers plain Rust takes those that have a layer from the list, and searches the others anew for
+each layer.
+Everyone is in A and B, but for the table of half of the members. Unless a file is called ascending, its links stand in random order.
 "
     )
 }
 
-fn goal_table(shapes: &[Measured], growth: &[Measured]) -> String {
+fn goal_table(shapes: &[Measured], halves: &[Halved], growth: &[Measured]) -> String {
     let head =
         "| Call | Goal | Greatest ratio | On | Networks above | Met |\n|---|---|---|---|---|---|\n";
     let mut text = head.to_string();
     for Goal { call, most } in GOALS {
-        let measured = shapes.iter().chain(growth);
+        let halves = halves.iter().map(|halved| &halved.half);
+        let halves = halves.filter(|_| Call::INSIDE.contains(&call));
+        let measured = shapes.iter().chain(halves).chain(growth);
         let mut ratios: Vec<_> = measured.map(|one| (one.of(call).ratio(), one)).collect();
         ratios.sort_by(|a, b| b.0.total_cmp(&a.0));
         let (greatest, on) = (ratios[0].0, &ratios[0].1.input.name);
@@ -97,22 +102,42 @@ fn goal_table(shapes: &[Measured], growth: &[Measured]) -> String {
 fn time_table(measured: &[Measured]) -> String {
     let head = "| Network | n | m | Layers | Call | Library (µs) | Plain Rust (µs) | Ratio |\n|---|---|---|---|---|---|---|---|\n";
     let mut text = head.to_string();
-    for Measured {
-        input,
-        layers,
-        times,
-    } in measured
-    {
-        for times in times {
-            let (name, n, m) = (&input.name, input.n, input.m);
-            let (call, ratio) = (times.call.name(), times.ratio());
-            let (library, plain) = (times.library, times.plain);
+    for one in measured {
+        for times in &one.times {
+            let (name, n, m) = (&one.input.name, one.input.n, one.input.m);
+            let (layers, call, cells) = (one.layers, times.call.name(), cells(times));
             add(
                 &mut text,
-                &format!(
-                    "| {name} | {n} | {m} | {layers} | {call} | {library:.1} | {plain:.1} | {ratio:.2} |"
-                ),
+                &format!("| {name} | {n} | {m} | {layers} | {call} | {cells} |"),
             );
+        }
+    }
+    text
+}
+
+/// The library's time, that of plain Rust, and their ratio.
+fn cells(times: &Times) -> String {
+    let (library, plain, ratio) = (times.library, times.plain, times.ratio());
+    format!("{library:.1} | {plain:.1} | {ratio:.2}")
+}
+
+/// The calls that search inside A and B, with everyone in these and with every other member.
+fn half_table(halves: &[Halved]) -> String {
+    let mut text = "Every other member is in A and in B, so that about a quarter of the links go from A to B. Beside each search stands the same with everyone.
+
+| Network | Call | In A and B | Layers | Library (µs) | Plain Rust (µs) | Ratio |
+|---|---|---|---|---|---|---|
+".to_string();
+    for Halved { whole, half } in halves {
+        for call in Call::INSIDE {
+            for (who, one) in [("everyone", *whole), ("half", half)] {
+                let (network, name, layers) = (&whole.input.name, call.name(), one.layers);
+                let cells = cells(one.of(call));
+                add(
+                    &mut text,
+                    &format!("| {network} | {name} | {who} | {layers} | {cells} |"),
+                );
+            }
         }
     }
     text

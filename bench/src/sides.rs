@@ -3,14 +3,16 @@ use crate::inputs::Input;
 use crate::plain::{Index, Plain, Refusal};
 use cogsplice::{lent, work_length};
 
-/// The x and y of the core that is measured.
+/// The x and y of the core that is measured, and the number whose level is.
 const CORE: [u16; 2] = [2, 2];
+const LEVEL: u16 = 2;
 
 #[derive(Clone, Copy, PartialEq, Eq)]
 pub enum Call {
     Finding,
     Layers,
     Core,
+    Level,
     Check,
     Index,
     Write,
@@ -18,21 +20,26 @@ pub enum Call {
 }
 
 impl Call {
-    pub const ALL: [Call; 7] = [
+    pub const ALL: [Call; 8] = [
         Call::Finding,
         Call::Layers,
         Call::Core,
+        Call::Level,
         Call::Check,
         Call::Index,
         Call::Write,
         Call::Count,
     ];
 
+    /// The calls that search inside A and B.
+    pub const INSIDE: [Call; 4] = [Call::Finding, Call::Layers, Call::Core, Call::Level];
+
     pub fn name(self) -> &'static str {
         match self {
             Call::Finding => "finding",
             Call::Layers => "layers",
             Call::Core => "core [2,2]",
+            Call::Level => "level of 2",
             Call::Check => "check",
             Call::Index => "index",
             Call::Write => "write",
@@ -98,15 +105,20 @@ impl Side for Library {
         let Tables {
             s, t, layers, out, ..
         } = &mut self.tables;
+        let (a, b, work) = (&input.a, &input.b, &mut self.work);
         match call {
-            Call::Finding => finding_numbers(lent::finding(file, s, t, &mut self.work)),
+            Call::Finding => finding_numbers(lent::finding(file, a, b, s, t, work)),
             Call::Layers => {
-                let told = lent::layers(file, layers, &mut self.work);
+                let told = lent::layers(file, a, b, layers, work);
                 numbers(told.refusal, told.link, [told.layers])
             }
             Call::Core => {
                 let [x, y] = CORE;
-                totals_numbers(lent::core(file, x, y, s, t, &mut self.work))
+                totals_numbers(lent::core(file, a, b, x, y, s, t, work))
+            }
+            Call::Level => {
+                let told = lent::level(file, a, b, LEVEL, work);
+                numbers(told.refusal, told.link, [told.level])
             }
             Call::Check => {
                 let told = lent::check(file);
@@ -182,10 +194,12 @@ impl Side for PlainRust {
 
     fn call(&mut self, call: Call, file: &[u8], input: &Input) -> Numbers {
         let Self { tables, plain } = self;
+        let inside = [&input.a[..], &input.b];
         match call {
-            Call::Finding => told(plain.finding(file, &mut tables.s, &mut tables.t)),
-            Call::Layers => told(plain.layers(file, &mut tables.layers)),
-            Call::Core => told(plain.core(file, CORE, &mut tables.s, &mut tables.t)),
+            Call::Finding => told(plain.finding(file, inside, &mut tables.s, &mut tables.t)),
+            Call::Layers => told(plain.layers(file, inside, &mut tables.layers)),
+            Call::Core => told(plain.core(file, inside, CORE, &mut tables.s, &mut tables.t)),
+            Call::Level => told(plain.level(file, inside, LEVEL)),
             Call::Check => told(plain.check(file)),
             Call::Index => told(plain.index(file, index_of(tables))),
             Call::Write => told(plain.write(file, &mut tables.out)),

@@ -10,7 +10,7 @@ use network::size_of;
 ghost use mathlib.Core.Bool.{true, _&&_};
 ghost use mathlib.Core.Path.{_≡_};
 ghost use Prim.Native.Nat.{_≤_};
-ghost use lib.Dec.{eqb};
+ghost use lib.Dec.{eqb, leb};
 ghost use lib.ListN.{length};
 ghost use Rattle.graph.specs.Range.{sum, if};
 ghost use Rattle.graph.specs.Graph.{edges};
@@ -19,17 +19,34 @@ ghost use Rattle.network.specs.Groups.{groupOf, isGroup};
 ghost use Rattle.network.specs.Accepted.{Sound};
 ghost use Rattle.calls.specs.Calls.{CountCall};
 
-// Whether each of the first n bytes is 0 or 1.
+// Whether the bytes so far, and this one, are each 0 or 1.
+fn and_fits(fits: bool, byte: u8) -> bool
+    ensures { λ r. ⌜ r ≡ (leb byte 1 && fits) ⌝ }
+{
+    if byte <= 1 { fits } else { false }
+}
+
+// Whether each of the first n bytes is 0 or 1. It is told without a branch, many bytes at a time.
 fn is_group(group: &[u8], n: usize) -> bool
     requires { ⌜ n ≤ length (now group) ⌝ }
     ensures { λ r. ⌜ r ≡ isGroup n (now (group .entry)) ⌝ }
 {
+    let mut fits = true;
     for u in 0..n {
-        if 1 < group[u] {
-            return false;
-        }
+        fits = and_fits(fits, group[u]);
     }
-    true
+    fits
+}
+
+// Whether this is so of two groups.
+pub fn are_groups(s: &[u8], t: &[u8], n: usize) -> bool
+    requires { ⌜ (n ≤ length (now s)) × (n ≤ length (now t)) ⌝ }
+    ensures { λ r. ⌜ r ≡ (isGroup n (now (s .entry)) && isGroup n (now (t .entry))) ⌝ }
+{
+    if !is_group(s, n) {
+        return false;
+    }
+    is_group(t, n)
 }
 
 // 1 for a byte that says in, else 0.
@@ -92,10 +109,7 @@ pub fn count(file: &[u8], s: &[u8], t: &[u8]) -> TotalsAnswer
     if t.len() < n {
         return TotalsAnswer::Refused(Refusal::plain(9));
     }
-    if !is_group(s, n) {
-        return TotalsAnswer::Refused(Refusal::plain(11));
-    }
-    if !is_group(t, n) {
+    if !are_groups(s, t, n) {
         return TotalsAnswer::Refused(Refusal::plain(11));
     }
     TotalsAnswer::Counted(Totals {

@@ -26,5 +26,6 @@ pub struct FileState {
 pub use checks::check;
 pub use checks::file_refusal;
 pub use checks::refusal_with_order;
+pub use counts::are_groups;
 pub use counts::count;
 pub use writes::write;

@@ -1,4 +1,4 @@
--- P1 to P9, a ring beside a star, zero bytes and the limits of a file: every case of the table holds.
+-- P1 to P9, a ring beside a star, both also inside A and B, zero bytes and the limits of a file: every case of the table holds.
 use mathlib.Core.Path.{refl}
 use Rattle.graph.specs.Range.{sum, first, flat}
 use Rattle.graph.specs.Core.{apart}

@@ -1,14 +1,15 @@
--- 01's "Networks to try" and 02's example as one table: each network as the bytes of its file, and what is said of it, by the definitions.
+-- 01's "Networks to try" and 02's examples as one table: each network as the bytes of its file, two groups A and B, and what is said of it
+-- inside them, by the definitions.
 use Prim.Native.Nat.{ℕ, suc}
 use mathlib.Core.Bool.{false, _||_}
 use mathlib.Core.List.{List, [], _∷_, _++_}
 use mathlib.Core.Path.{_≡_}
 use lib.Dec.{eqb}
 use lib.ListN.{length, getD, take}
-use Rattle.graph.specs.Graph.{Graph, Group, card, edges}
-use Rattle.graph.specs.Core.{Core, Level, LevelAcross, EqualLevel, Finding}
-use Rattle.graph.specs.Quiet.{Outcome}
-use Rattle.graph.specs.Layers.{stillIn, Layering}
+use Rattle.graph.specs.Graph.{Graph, Group, everyone, card, edges}
+use Rattle.graph.specs.Core.{CoreInside, LevelInside, LevelAcrossInside, EqualLevelInside, FindingInside}
+use Rattle.graph.specs.Quiet.{OutcomeInside}
+use Rattle.graph.specs.Layers.{stillIn, LayeringInside}
 use Rattle.network.specs.declared.Refusal.{Refusal}
 use Rattle.network.specs.File.{graphOf, none, plain, at, fileRefusal}
 use Rattle.network.specs.Bytes.{header, edgeBytes}
@@ -26,7 +27,7 @@ pub record Ring : Type 0 where
   pub T : List ℕ
   pub E : ℕ
 
--- what 01 says of a network, and 02; S and T list members
+-- what 01 says of a network, and 02, inside A and B; S and T list members
 pub data Claim : Type 0 where
   -- the [x,y]-core is S and T, with E links between them
   core : (x y : ℕ) (S T : List ℕ) (E : ℕ) → Claim
@@ -36,7 +37,7 @@ pub data Claim : Type 0 where
   across : (y x : ℕ) → Claim
   -- the finding is [x,y] with S, T and E, or nothing with zeros, and the equal level is k
   finding : (x y k : ℕ) (S T : List ℕ) (E : ℕ) → Claim
-  -- the links have the listed layers, which are these rings, one after the other
+  -- the links have the listed layers, 0 for none, which are these rings, one after the other
   layers : List ℕ → List Ring → Claim
   -- the file is accepted, with n members and m links
   has : (n m : ℕ) → Claim
@@ -49,45 +50,47 @@ pub record Counts (g : Graph) (S T : List ℕ) (E : ℕ) : Type 0 where
   pub sources : card g (members S) ≡ length S
   pub targets : card g (members T) ≡ length T
 
--- the file is accepted, and (S,T) is the [x,y]-core of its network
-pub record SaysCore (f : List ℕ) (x y : ℕ) (S T : List ℕ) (E : ℕ) : Type 0 where
+-- the file is accepted, and (S,T) is the [x,y]-core of its network inside A and B
+pub record SaysCore (f : List ℕ) (A B : Group) (x y : ℕ) (S T : List ℕ) (E : ℕ) : Type 0 where
   pub accepted : fileRefusal f ≡ none
-  pub core : Core (graphOf f) x y (members S) (members T)
+  pub core : CoreInside (graphOf f) A B x y (members S) (members T)
   pub counts : Counts (graphOf f) S T E
 
--- the file is accepted, and (S,T) is what is found in its network, for [x,y]
-pub record SaysFinding (f : List ℕ) (x y k : ℕ) (S T : List ℕ) (E : ℕ) : Type 0 where
+-- the file is accepted, and (S,T) is what is found in its network inside A and B, for [x,y]
+pub record SaysFinding (f : List ℕ) (A B : Group) (x y k : ℕ) (S T : List ℕ) (E : ℕ) : Type 0 where
   pub accepted : fileRefusal f ≡ none
-  pub outcome : Outcome (graphOf f) x y (members S) (members T)
-  pub level : EqualLevel (graphOf f) k
+  pub outcome : OutcomeInside (graphOf f) A B x y (members S) (members T)
+  pub level : EqualLevelInside (graphOf f) A B k
   pub counts : Counts (graphOf f) S T E
 
--- the rings, from layer l on, are the findings of the links still in
-abbrev pub Rings : Graph → (ℕ → ℕ) → ℕ → List Ring → Type 0
-Rings g L l [] = Unit {0}
-Rings g L l (r ∷ rings) =
-    Finding (stillIn g L l) (r .x) (r .y) (members (r .S)) (members (r .T)) × Counts (stillIn g L l) (r .S) (r .T) (r .E)
-    × Rings g L (suc l) rings
+-- the rings, from layer l on, are the findings inside A and B of the links still in
+abbrev pub Rings : Graph → Group → Group → (ℕ → ℕ) → ℕ → List Ring → Type 0
+Rings g A B L l [] = Unit {0}
+Rings g A B L l (r ∷ rings) =
+    FindingInside (stillIn g L l) A B (r .x) (r .y) (members (r .S)) (members (r .T)) × Counts (stillIn g L l) (r .S) (r .T) (r .E)
+    × Rings g A B L (suc l) rings
 
--- the file is accepted, and its links have these layers, of which each is its ring
-pub record SaysLayers (f layers : List ℕ) (rings : List Ring) : Type 0 where
+-- the file is accepted, and inside A and B its links have these layers, of which each is its ring
+pub record SaysLayers (f : List ℕ) (A B : Group) (layers : List ℕ) (rings : List Ring) : Type 0 where
   pub accepted : fileRefusal f ≡ none
-  pub layering : Layering (graphOf f) (λ e. getD layers e 0) (length rings)
-  pub each : Rings (graphOf f) (λ e. getD layers e 0) 1 rings
+  pub layering : LayeringInside (graphOf f) A B (λ e. getD layers e 0) (length rings)
+  pub each : Rings (graphOf f) A B (λ e. getD layers e 0) 1 rings
 
--- a claim on a file, by the definitions
-abbrev pub Says : List ℕ → Claim → Type 0
-Says f (core x y S T E) = SaysCore f x y S T E
-Says f (level x y) = (fileRefusal f ≡ none) × Level (graphOf f) x y
-Says f (across y x) = (fileRefusal f ≡ none) × LevelAcross (graphOf f) y x
-Says f (finding x y k S T E) = SaysFinding f x y k S T E
-Says f (layers l rings) = SaysLayers f l rings
-Says f (has n m) = (fileRefusal f ≡ none) × (graphOf f .order ≡ n) × (graphOf f .size ≡ m)
-Says f (gives r) = fileRefusal f ≡ r
+-- a claim on a file inside A and B, by the definitions; A and B do not count for its n and m or its refusal
+abbrev pub Says : List ℕ → Group → Group → Claim → Type 0
+Says f A B (core x y S T E) = SaysCore f A B x y S T E
+Says f A B (level x y) = (fileRefusal f ≡ none) × LevelInside (graphOf f) A B x y
+Says f A B (across y x) = (fileRefusal f ≡ none) × LevelAcrossInside (graphOf f) A B y x
+Says f A B (finding x y k S T E) = SaysFinding f A B x y k S T E
+Says f A B (layers l rings) = SaysLayers f A B l rings
+Says f A B (has n m) = (fileRefusal f ≡ none) × (graphOf f .order ≡ n) × (graphOf f .size ≡ m)
+Says f A B (gives r) = fileRefusal f ≡ r
 
--- a file and one claim on it
+-- a file, the groups A and B, and one claim on it inside them
 pub record Case : Type 0 where
   pub file : List ℕ
+  pub sources : Group
+  pub targets : Group
   pub claim : Claim
 
 -- network W
@@ -98,11 +101,15 @@ W = header 6 8 ++ edgeBytes 0 3 ++ edgeBytes 0 4 ++ edgeBytes 1 3 ++ edgeBytes 1
 abbrev pub starAndRing : List ℕ
 starAndRing = header 9 8 ++ edgeBytes 0 4 ++ edgeBytes 1 4 ++ edgeBytes 2 4 ++ edgeBytes 3 4 ++ edgeBytes 5 7 ++ edgeBytes 5 8 ++ edgeBytes 6 7 ++ edgeBytes 6 8
 
--- one case of the table
+-- one case of the table, among everyone
 abbrev pub says : List ℕ → Claim → Case
-says f c = record { file = f; claim = c }
+says f c = record { file = f; sources = everyone; targets = everyone; claim = c }
 
--- P1 to P9, W's report and W's layers, 02's example, zero bytes, then the limits of a file
+-- one case of the table, inside the listed A and B
+abbrev pub saysIn : List ℕ → List ℕ → List ℕ → Claim → Case
+saysIn f A B c = record { file = f; sources = members A; targets = members B; claim = c }
+
+-- P1 to P9, W's report and W's layers, 02's example, some of these inside A and B, zero bytes, then the limits of a file
 unfoldable pub cases : List Case
 cases =
     -- P1
@@ -113,11 +120,19 @@ cases =
     ∷ says W (core 0 4 (0 ∷ 1 ∷ 2 ∷ 3 ∷ 4 ∷ 5 ∷ []) [] 0)
     -- P4
     ∷ says W (core 3 0 [] (0 ∷ 1 ∷ 2 ∷ 3 ∷ 4 ∷ 5 ∷ []) 0)
+    -- inside A and B the S of x = 0 is A, and the T of y = 0 is B (02, wish 5)
+    ∷ saysIn W (0 ∷ 1 ∷ 4 ∷ []) (3 ∷ 5 ∷ []) (core 0 2 (0 ∷ 1 ∷ 4 ∷ []) (3 ∷ []) 2)
+    ∷ saysIn W (0 ∷ 1 ∷ 4 ∷ []) (3 ∷ 4 ∷ 5 ∷ []) (core 2 0 (0 ∷ 1 ∷ []) (3 ∷ 4 ∷ 5 ∷ []) 4)
+    -- a core inside A and B is not the one among everyone cut down to them: of P2's groups, so cut down, 4 leaves S and 5 leaves T
+    ∷ saysIn W (0 ∷ 1 ∷ 4 ∷ []) (3 ∷ 5 ∷ []) (core 1 2 (0 ∷ 1 ∷ []) (3 ∷ []) 2)
     -- P5
     ∷ says W (level 1 3)
     ∷ says W (level 2 3)
     ∷ says W (level 3 0)
     ∷ says W (across 3 2)
+    -- inside A and B the level of 1 and the level across for 2 are 1 lower than among everyone
+    ∷ saysIn W (0 ∷ 1 ∷ 4 ∷ []) (3 ∷ 5 ∷ []) (level 1 2)
+    ∷ saysIn W (0 ∷ 1 ∷ 4 ∷ []) (3 ∷ 5 ∷ []) (across 2 1)
     -- the report on W
     ∷ says W (finding 2 3 2 (0 ∷ 1 ∷ 2 ∷ []) (3 ∷ 4 ∷ []) 6)
     -- its layers
@@ -125,6 +140,16 @@ cases =
     record { x = 2; y = 3; S = 0 ∷ 1 ∷ 2 ∷ []; T = 3 ∷ 4 ∷ []; E = 6 }
     ∷ record { x = 1; y = 2; S = 4 ∷ 5 ∷ []; T = 5 ∷ []; E = 2 }
     ∷ []))
+    -- the report on W inside A and B
+    ∷ saysIn W (0 ∷ 1 ∷ 4 ∷ 5 ∷ []) (4 ∷ 5 ∷ []) (finding 1 2 1 (0 ∷ 1 ∷ 4 ∷ 5 ∷ []) (4 ∷ 5 ∷ []) 4)
+    -- layers inside A and B: the links of 2, who is not in A, have none
+    ∷ saysIn W (0 ∷ 1 ∷ 4 ∷ 5 ∷ []) (3 ∷ 4 ∷ 5 ∷ []) (layers (1 ∷ 1 ∷ 1 ∷ 1 ∷ 0 ∷ 0 ∷ 2 ∷ 2 ∷ []) (
+    record { x = 2; y = 2; S = 0 ∷ 1 ∷ []; T = 3 ∷ 4 ∷ []; E = 4 }
+    ∷ record { x = 1; y = 2; S = 4 ∷ 5 ∷ []; T = 5 ∷ []; E = 2 }
+    ∷ []))
+    -- a quiet month inside A and B: links go from B to A only, so nothing is found, and no link has a layer
+    ∷ saysIn W (3 ∷ 4 ∷ []) (0 ∷ 1 ∷ 2 ∷ []) (finding 0 0 0 [] [] 0)
+    ∷ saysIn W (3 ∷ 4 ∷ []) (0 ∷ 1 ∷ 2 ∷ []) (layers (0 ∷ 0 ∷ 0 ∷ 0 ∷ 0 ∷ 0 ∷ 0 ∷ 0 ∷ []) [])
     -- P6
     ∷ says (header 4 3 ++ edgeBytes 0 1 ++ edgeBytes 0 2 ++ edgeBytes 0 3) (finding 3 1 1 (0 ∷ []) (1 ∷ 2 ∷ 3 ∷ []) 3)
     -- P7
@@ -134,6 +159,12 @@ cases =
     ∷ says starAndRing (layers (2 ∷ 2 ∷ 2 ∷ 2 ∷ 1 ∷ 1 ∷ 1 ∷ 1 ∷ []) (
     record { x = 2; y = 2; S = 5 ∷ 6 ∷ []; T = 7 ∷ 8 ∷ []; E = 4 }
     ∷ record { x = 1; y = 4; S = 0 ∷ 1 ∷ 2 ∷ 3 ∷ []; T = 4 ∷ []; E = 4 }
+    ∷ []))
+    -- with only part of the ring in A and B the star is found, and one link of the ring is left for the next layer
+    ∷ saysIn starAndRing (0 ∷ 1 ∷ 2 ∷ 3 ∷ 5 ∷ []) (4 ∷ 7 ∷ []) (finding 1 4 1 (0 ∷ 1 ∷ 2 ∷ 3 ∷ []) (4 ∷ []) 4)
+    ∷ saysIn starAndRing (0 ∷ 1 ∷ 2 ∷ 3 ∷ 5 ∷ []) (4 ∷ 7 ∷ []) (layers (1 ∷ 1 ∷ 1 ∷ 1 ∷ 2 ∷ 0 ∷ 0 ∷ 0 ∷ []) (
+    record { x = 1; y = 4; S = 0 ∷ 1 ∷ 2 ∷ 3 ∷ []; T = 4 ∷ []; E = 4 }
+    ∷ record { x = 1; y = 1; S = 5 ∷ []; T = 7 ∷ []; E = 1 }
     ∷ []))
     -- P8
     ∷ says (header 1 1 ++ edgeBytes 0 0) (finding 1 1 1 (0 ∷ []) (0 ∷ []) 1)
@@ -162,4 +193,4 @@ cases =
 -- every case's claim holds
 abbrev pub Hold : List Case → Type 0
 Hold [] = Unit {0}
-Hold (c ∷ s) = Says (c .file) (c .claim) × Hold s
+Hold (c ∷ s) = Says (c .file) (c .sources) (c .targets) (c .claim) × Hold s

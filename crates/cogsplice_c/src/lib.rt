@@ -190,59 +190,82 @@ pub extern "C" fn cogsplice_row_refusal(
 #[no_mangle]
 pub extern "C" fn cogsplice_core(
     file: &[u8],
+    a: &[u8],
+    b: &[u8],
     x: u16,
     y: u16,
     s: &mut [u8],
     t: &mut [u8],
     work: &mut [u16],
 ) -> TotalsNumbers
-    ensures { λ r. ⌜ Told (CoreCall (now (file .entry)) x y (now (s .entry)) (now (s .exit)) (now (t .entry)) (now (t .exit)) (now (work .entry)) (now (work .exit))) totalsNumbers r ⌝ }
+    ensures { λ r. ⌜ Told (CoreCall (now (file .entry)) (now (a .entry)) (now (b .entry)) x y (now (s .entry)) (now (s .exit)) (now (t .entry)) (now (t .exit)) (now (work .entry)) (now (work .exit))) totalsNumbers r ⌝ }
 {
-    totals_numbers(cogsplice::core(file, x, y, s, t, work))
+    totals_numbers(cogsplice::core(file, a, b, x, y, s, t, work))
 }
 
 #[no_mangle]
-pub extern "C" fn cogsplice_level(file: &[u8], x: u16, work: &mut [u16]) -> LevelNumbers
-    ensures { λ r. ⌜ Told (LevelCall (now (file .entry)) x (now (work .entry)) (now (work .exit))) levelNumbers r ⌝ }
+pub extern "C" fn cogsplice_level(
+    file: &[u8],
+    a: &[u8],
+    b: &[u8],
+    x: u16,
+    work: &mut [u16],
+) -> LevelNumbers
+    ensures { λ r. ⌜ Told (LevelCall (now (file .entry)) (now (a .entry)) (now (b .entry)) x (now (work .entry)) (now (work .exit))) levelNumbers r ⌝ }
 {
-    level_numbers(cogsplice::level(file, x, work))
+    level_numbers(cogsplice::level(file, a, b, x, work))
 }
 
 #[no_mangle]
-pub extern "C" fn cogsplice_level_across(file: &[u8], y: u16, work: &mut [u16]) -> LevelNumbers
-    ensures { λ r. ⌜ Told (LevelAcrossCall (now (file .entry)) y (now (work .entry)) (now (work .exit))) levelNumbers r ⌝ }
+pub extern "C" fn cogsplice_level_across(
+    file: &[u8],
+    a: &[u8],
+    b: &[u8],
+    y: u16,
+    work: &mut [u16],
+) -> LevelNumbers
+    ensures { λ r. ⌜ Told (LevelAcrossCall (now (file .entry)) (now (a .entry)) (now (b .entry)) y (now (work .entry)) (now (work .exit))) levelNumbers r ⌝ }
 {
-    level_numbers(cogsplice::level_across(file, y, work))
+    level_numbers(cogsplice::level_across(file, a, b, y, work))
 }
 
 #[no_mangle]
-pub extern "C" fn cogsplice_equal_level(file: &[u8], work: &mut [u16]) -> LevelNumbers
-    ensures { λ r. ⌜ Told (EqualLevelCall (now (file .entry)) (now (work .entry)) (now (work .exit))) levelNumbers r ⌝ }
+pub extern "C" fn cogsplice_equal_level(
+    file: &[u8],
+    a: &[u8],
+    b: &[u8],
+    work: &mut [u16],
+) -> LevelNumbers
+    ensures { λ r. ⌜ Told (EqualLevelCall (now (file .entry)) (now (a .entry)) (now (b .entry)) (now (work .entry)) (now (work .exit))) levelNumbers r ⌝ }
 {
-    level_numbers(cogsplice::equal_level(file, work))
+    level_numbers(cogsplice::equal_level(file, a, b, work))
 }
 
 #[no_mangle]
 pub extern "C" fn cogsplice_finding(
     file: &[u8],
+    a: &[u8],
+    b: &[u8],
     s: &mut [u8],
     t: &mut [u8],
     work: &mut [u16],
 ) -> FindingNumbers
-    ensures { λ r. ⌜ Told (FindingCall (now (file .entry)) (now (s .entry)) (now (s .exit)) (now (t .entry)) (now (t .exit)) (now (work .entry)) (now (work .exit))) findingNumbers r ⌝ }
+    ensures { λ r. ⌜ Told (FindingCall (now (file .entry)) (now (a .entry)) (now (b .entry)) (now (s .entry)) (now (s .exit)) (now (t .entry)) (now (t .exit)) (now (work .entry)) (now (work .exit))) findingNumbers r ⌝ }
 {
-    finding_numbers(cogsplice::finding(file, s, t, work))
+    finding_numbers(cogsplice::finding(file, a, b, s, t, work))
 }
 
 #[no_mangle]
 pub extern "C" fn cogsplice_layers(
     file: &[u8],
+    a: &[u8],
+    b: &[u8],
     layers: &mut [u16],
     work: &mut [u16],
 ) -> LayersNumbers
-    ensures { λ r. ⌜ Told (LayersCall (now (file .entry)) (now (layers .entry)) (now (layers .exit)) (now (work .entry)) (now (work .exit))) layersNumbers r ⌝ }
+    ensures { λ r. ⌜ Told (LayersCall (now (file .entry)) (now (a .entry)) (now (b .entry)) (now (layers .entry)) (now (layers .exit)) (now (work .entry)) (now (work .exit))) layersNumbers r ⌝ }
 {
-    layers_numbers(cogsplice::layers(file, layers, work))
+    layers_numbers(cogsplice::layers(file, a, b, layers, work))
 }
 
 #[no_mangle]

@@ -1,6 +1,7 @@
 // Cores and levels: the calls core, level, level_across and equal_level, and the way into every call on cores.
 mod asks;
 mod entries;
+mod groups;
 
 use network::Refusal;
 
@@ -16,7 +17,7 @@ pub enum Ask {
     NotZero(u16),
 }
 
-// What the way in answers: n and m, or the refusal.
+// What the way in answers: n and the number of links from A to B, or the refusal.
 pub enum Entry {
     Ready { order: usize, size: usize },
     Refused(Refusal),
@@ -27,3 +28,4 @@ pub use asks::equal_level;
 pub use asks::level;
 pub use asks::level_across;
 pub use entries::enter;
+pub use entries::later_number;

@@ -1,3 +1,4 @@
 pub mod Rows
 pub mod Counts
+pub mod Times
 pub mod Lists

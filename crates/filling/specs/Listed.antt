@@ -1,4 +1,4 @@
--- A graph of which only the edges of a list count, and the work table that holds it.
+-- A list of edges, the graph of which only these count, and the work table that holds it.
 use Prim.Native.Nat.{ℕ, _<_}
 use mathlib.Core.List.{List}
 use mathlib.Core.Path.{_≡_}
@@ -24,6 +24,11 @@ times l k e = sum (λ i. if (eqb (getD l i 0) e) 1) k
 -- the graph in which each edge weighs as often as it stands in the list, and so 0 where it does not
 abbrev pub only : Graph → List ℕ → Graph
 only g l = record { order = g .order; size = g .size; source = g .source; target = g .target; weight = times l (length l) }
+
+-- the first k entries of a list are the edges of a graph, each as often as it weighs
+pub record ListOf (g : Graph) (l : List ℕ) (k : ℕ) : Type 0 where
+  pub below : (i : ℕ) → i < k → getD l i 0 < g .size
+  pub weighs : (e : ℕ) → e < g .size → times l k e ≡ g .weight e
 
 -- the table, with room for k edges, holds a graph, and what lies past the entries that it needs is unchanged
 pub record FilledWith (g : Graph) (k : ℕ) (w w′ : List ℕ) : Type 0 where

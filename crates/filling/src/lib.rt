@@ -1,5 +1,6 @@
 // The work table filled from a list of edges: a graph of 2n places in which only these edges count.
 mod fills;
+mod listings;
 
 // The source and the target of an edge.
 pub struct Ends {
@@ -8,4 +9,6 @@ pub struct Ends {
 }
 
 pub use fills::fill;
-pub use fills::fill_all;
+pub use fills::fill_within;
+pub use listings::is_between;
+pub use listings::list_edges;

@@ -128,13 +128,13 @@ dense-settled {g} k {x} {y} {S} {T} d = settled-dense k (places g S T) .1 (dense
 
 -- what surrounds every settled set covers every dense pair
 pub surrounds-covers : {g : Graph} → Closed g → {x y : ℕ} {R : Group} → Surrounds (joined g) (2 * g .order) (need (g .order) x y) R → Covers g x y R (targets g R)
-surrounds-covers {g} k s S T d =
+surrounds-covers {g} k s S T a b d =
     let inside = s .inside (places g S T) (dense-settled k d) in
     (λ u l h. inside u (omega arith) (sym (places-source g S T u l) ∙ h), λ v l h. inside (g .order + v) (omega arith) (sym (places-target g S T v l) ∙ h))
 
 -- when no place is short any more, what is left is the core
 pub settled-core : {g : Graph} → Closed g → {x y : ℕ} (R : Group) → Settled (joined g) (2 * g .order) (need (g .order) x y) R → Surrounds (joined g) (2 * g .order) (need (g .order) x y) R → Core g x y R (targets g R)
-settled-core k R s r = record { dense = settled-dense k R .0 s; largest = surrounds-covers k r }
+settled-core k R s r = record { sources = λ u l h. refl; targets = λ v l h. refl; dense = settled-dense k R .0 s; largest = surrounds-covers k r }
 
 -- E of the pair is the sum of the degrees of its sources
 pub edges-places : {g : Graph} → Closed g → (R : Group) → edges g R (targets g R) ≡ sum (λ u. if (R u) (degree (joined g) (2 * g .order) R u)) (g .order)

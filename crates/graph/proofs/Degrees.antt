@@ -88,6 +88,10 @@ edges-without-in {g} k S T v l h =
 pub inside-without : (g : Graph) {R S : Group} (u : ℕ) → Inside g R S → R u ≢ true → Inside g R (without S u)
 inside-without g {R} {S} u p h w l k = rw (ne-eqb w u (λ e. h (rw e at k)), p w l k)
 
+-- what is left of a group is in whatever holds the group
+pub without-inside : (g : Graph) {S R : Group} (u : ℕ) → Inside g S R → Inside g (without S u) R
+without-inside g {S} u p w l h = p w l (and-right (not (eqb w u)) (S w) h)
+
 -- a group of at least one vertex has one
 pub card-some : (g : Graph) (S : Group) → 1 ≤ card g S → (u : ℕ) × (u < g .order) × (S u ≡ true)
 card-some g S h = let (u, l, k) = sum-some (λ u. if (S u) 1) (g .order) h in (u, l, if-some (S u) 1 k .0)
@@ -101,6 +105,10 @@ pub edges-some : {g : Graph} → Closed g → (S T : Group) → 1 ≤ edges g S 
 edges-some {g} k S T h =
     let (e, l, p) = sum-some (λ e. if (S (g .source e) && T (g .target e)) (g .weight e)) (g .size) h in
     some-card g S (g .source e) (k .source-below e l) (and-left _ _ (if-some (S (g .source e) && T (g .target e)) (g .weight e) p .0))
+
+-- and reach one of T
+pub edges-other : {g : Graph} → Closed g → (S T : Group) → 1 ≤ edges g S T → 1 ≤ card g T
+edges-other {g} k S T h = edges-some (closed-reverse k) T S (rw (edges-reverse g S T) h)
 
 -- x links from each of a group are in all x times its size
 pub times-card : (g : Graph) (S : Group) (x : ℕ) (f : ℕ → ℕ) → ((u : ℕ) → u < g .order → S u ≡ true → x ≤ f u) → x * card g S ≤ sum (λ u. if (S u) (f u)) (g .order)

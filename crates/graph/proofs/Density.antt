@@ -7,10 +7,11 @@ use native.Mathlib.Nat.{lt-suc-self, mul-le-mul, mul-le-mul-left, mul-le-mul-rig
 use native.Mathlib.Omega.{arith}
 use Rattle.graph.specs.Graph.{Graph, reverse, Group, card, edges, outDegree, inDegree}
 use Rattle.graph.specs.Shapes.{Closed}
-use Rattle.graph.specs.Core.{Nonempty, Finding, Bounds}
-use Rattle.graph.proofs.Degrees.{closed-reverse, only, without, edges-reverse, edges-some, edges-without, card-without}
+use Rattle.graph.specs.Core.{Inside, Nonempty, FindingInside, BoundsInside}
+use Rattle.graph.proofs.Degrees.{closed-reverse, only, without, edges-reverse, edges-some, edges-other, edges-without, card-without}
 use Rattle.graph.proofs.Peel.{Enough, peel}
 use Rattle.graph.proofs.Exists.{dense-edges, dense-edges-in, nonempty, nonempty-reverse}
+use Rattle.graph.proofs.Within.{closed-within, edges-inside, nonempty-within}
 
 -- some non-empty [x,y]-core has x * y large enough for the bound on the links from S to T
 pub record Bounded (g : Graph) (S T : Group) : Type 0 where
@@ -84,7 +85,7 @@ balanced : {g : Graph} → Closed g → {S T : Group} → 1 ≤ edges g S T → 
 balanced {g} k {S} {T} p f h =
     let e = edges g S T in
     let a = edges-some k S T p in
-    let b = edges-some (closed-reverse k) T S (rw (edges-reverse g S T) p) in
+    let b = edges-other k S T p in
     record {
       x = half e (card g S);
       y = half e (card g T);
@@ -119,17 +120,19 @@ greatest {g} k x y S T h = ⊎-elim none some (eq-zero-or-pos (edges g S T))
         let b = bounded k S T p in
         omega (arith, b .bound, mul-le-mul-right (card g S * card g T) (h (b .x) (b .y) (b .x-positive) (b .y-positive) (b .nonempty)))
 
--- condition 3: no pair is more than twice as dense as the finding
-pub finding-bounds : {g : Graph} → Closed g → {x y : ℕ} {S T : Group} → Finding g x y S T → Bounds g x y S T
-finding-bounds {g} k {x} {y} {S} {T} f =
+-- condition 3: no pair inside A and B is more than twice as dense as the finding there, by the graph in which only their links count
+pub finding-bounds : {g : Graph} → Closed g → {A B : Group} {x y : ℕ} {S T : Group} → FindingInside g A B x y S T → BoundsInside g A B x y S T
+finding-bounds {g} k {A} {B} {x} {y} {S} {T} f =
     record {
-      above = λ S′ T′ p q. above S′ T′;
+      above = λ S′ T′ i j p q. above S′ T′ i j;
       below = below;
-      twice = λ S′ T′ p q. omega (arith, mul-le-mul-right (card g S * card g T) (above S′ T′), mul-le-mul-right (card g S′ * card g T′) below);
+      twice = λ S′ T′ i j p q. omega (arith, mul-le-mul-right (card g S * card g T) (above S′ T′ i j), mul-le-mul-right (card g S′ * card g T′) below);
     }
   where
-    above : (S′ T′ : Group) → edges g S′ T′ * edges g S′ T′ ≤ 4 * (x * y) * (card g S′ * card g T′)
-    above S′ T′ = greatest k x y S′ T′ (λ x′ y′ i j n. f .before x′ y′ i j n .product)
+    above : (S′ T′ : Group) → Inside g S′ A → Inside g T′ B → edges g S′ T′ * edges g S′ T′ ≤ 4 * (x * y) * (card g S′ * card g T′)
+    above S′ T′ i j =
+        rw (← edges-inside k A B i j)
+        (greatest (closed-within k A B) x y S′ T′ (λ x′ y′ p q n. f .before x′ y′ p q (nonempty-within k A B x′ y′ p q .0 n) .product))
 
     below : x * y * (card g S * card g T) ≤ edges g S T * edges g S T
     below = omega (arith, mul-le-mul (dense-edges k (f .core .dense)) (dense-edges-in k (f .core .dense)))

@@ -8,7 +8,7 @@ use native.Mathlib.Omega.{arith}
 use borrow.Author.Tests.{lt-leb, eq-eqb, ne-eqb, eqb-true}
 use lib.Dec.{eqb}
 use Rattle.graph.specs.Range.{sum, if}
-use Rattle.graph.specs.Graph.{Graph, Group}
+use Rattle.graph.specs.Graph.{Graph, Group, everyone}
 use Rattle.graph.specs.Shapes.{Closed, total}
 use Rattle.graph.specs.Core.{Finding}
 use Rattle.graph.specs.Layers.{isIn, stillIn, joins, edgesIn, Layer, Layering}
@@ -17,7 +17,7 @@ use Rattle.graph.proofs.Tests.{and-left, if-le}
 use Rattle.graph.proofs.Sums.{sum-first, sum-ext, sum-mono, sum-ones, sum-swap, sum-pick, term-le-sum}
 use Rattle.graph.proofs.Found.{finding-exists}
 use Rattle.graph.proofs.Masks.{closed-weighing}
-use Rattle.graph.proofs.Layers.{in-same, joins-weight, joins-keep, layer-make, layer-some, layer-same, layer-product}
+use Rattle.graph.proofs.Layers.{in-same, joins-weight, joins-everyone, joins-keep, layer-make, layer-some, layer-same, layer-product}
 
 -- whatever is counted of edges: counted layer by layer, with what is in none, it is the whole
 by-layer : (L w : ℕ → ℕ) (n k : ℕ) → ((e : ℕ) → e < n → L e ≤ k)
@@ -69,7 +69,7 @@ module _ {g : Graph} (c : Closed g) {L : ℕ → ℕ} {k : ℕ} (a : Layered g L
   pub layered-ends : total (unlayered g L) ≡ 0 → Layering g L k
   layered-ends z =
       record {
-        every = λ e l. (layered-link e l, λ p. ⊎-elim (λ q. absurd (none e l p q)) (λ q. q) (eq-zero-or-pos (L e)));
+        every = λ e l. (λ p. joins-everyone g e .1 (layered-link e l p), λ p. ⊎-elim (λ q. absurd (none e l (joins-everyone g e .0 p) q)) (λ q. q) (eq-zero-or-pos (L e)));
         most = a .most;
         layer = a .layer;
         falls = λ l r s. layer-product c (omega arith) r s;
@@ -128,5 +128,5 @@ layering-exists {g} c = go (total g) (layered-begins g (λ e. 0) (λ e l. refl))
     go zero {L} {k} a h = (L, k, layered-ends c a (omega (arith, layered-total c a)))
     go (suc n) {L} {k} a h =
         ⊎-elim (λ z. (L, k, layered-ends c a z)) (λ p.
-        let (x, y, S, T, f) = finding-exists (closed-weighing c _) p in
+        let (x, y, S, T, f) = finding-exists (closed-weighing c _) everyone everyone p in
         go n (layered-next c a f (λ e l. refl)) (omega arith)) (eq-zero-or-pos (total (unlayered g L)))

@@ -14,7 +14,7 @@ use Rattle.graph.specs.Layers.{isIn, edgesIn, Layer, Layering}
 use Rattle.graph.specs.Layered.{unlayered}
 use Rattle.graph.proofs.Tests.{if-some}
 use Rattle.graph.proofs.Sums.{sum-none}
-use Rattle.graph.proofs.Layers.{in-same, layer-some, layer-same, layer-unique, layer-product}
+use Rattle.graph.proofs.Layers.{in-same, joins-everyone, layer-some, layer-same, layer-unique, layer-product}
 use Rattle.graph.proofs.Layered.{layered-edges}
 
 -- each of the first n layers has the same edges by L as by L′
@@ -39,7 +39,7 @@ module _ {g : Graph} (c : Closed g) {L L′ : ℕ → ℕ} {K K′ : ℕ} (a : L
   -- where one layering has no more layers than another, both have each link in the same layer
   same-layer : K ≤ K′ → (e : ℕ) → e < g .size → 1 ≤ g .weight e → L′ e ≡ L e
   same-layer i e h p =
-      let q = a .every e h .1 p in
+      let q = a .every e h .1 (joins-everyone g e .1 p) in
       let t = agree c K (a .layer) (λ l j m. b .layer l j (omega arith)) e h (L e) q (a .most e h) in
       eqb-true _ _ (sym t ∙ eq-eqb (L e) (L e) refl)
 
@@ -60,7 +60,7 @@ layering-unique {g} c {L} {L′} {K} {K′} a b = (number (decLe K K′) (decLe 
 
     same : (e : ℕ) → e < g .size → Dec (1 ≤ g .weight e) → L e ≡ L′ e
     same e h (yes p) = same-layer c b a (omega (arith, number (decLe K K′) (decLe K′ K))) e h p
-    same e h (no p) = none (L e) (a .every e h .0) ∙ sym (none (L′ e) (b .every e h .0))
+    same e h (no p) = none (L e) (λ q. joins-everyone g e .0 (a .every e h .0 q)) ∙ sym (none (L′ e) (λ q. joins-everyone g e .0 (b .every e h .0 q)))
       where
         none : (k : ℕ) → (1 ≤ k → 1 ≤ g .weight e) → k ≡ 0
         none k f = ⊎-elim (λ q. q) (λ q. absurd (p (f q))) (eq-zero-or-pos k)
@@ -71,7 +71,7 @@ module _ {g : Graph} (c : Closed g) {L : ℕ → ℕ} {K : ℕ} (a : Layering g 
   layering-none = sum-none _ (g .size) (λ e h. ⊎-elim (λ q. q) (λ p. absurd (none e h p)) (eq-zero-or-pos _))
     where
       none : (e : ℕ) → e < g .size → 1 ≤ if (eqb (L e) 0) (g .weight e) → ⊥
-      none e h p = let (t, q) = if-some (eqb (L e) 0) (g .weight e) p in omega (arith, eqb-true (L e) 0 t, a .every e h .1 q)
+      none e h p = let (t, q) = if-some (eqb (L e) 0) (g .weight e) p in omega (arith, eqb-true (L e) 0 t, a .every e h .1 (joins-everyone g e .1 q))
 
   -- so E of the layers is the whole weight
   pub layering-edges : sum (λ i. edgesIn g L (suc i)) K ≡ total g

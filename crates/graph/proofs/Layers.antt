@@ -1,7 +1,7 @@
 -- One layer: what it takes to be one, its links, and its x * y beside that of a later one.
 use Prim.Native.Nat.{ℕ, zero, suc, _*_, _<_, _≤_}
 use mathlib.Core.Bool.{Bool, true, false, _&&_}
-use mathlib.Core.Logic.{_⊎_, inl, inr, ⊎-elim}
+use mathlib.Core.Logic.{_⊎_, inl, inr, ⊎-elim, _↔_}
 use mathlib.Core.Path.{_≡_, refl, sym, ap, _∙_}
 use native.Mathlib.Decide.{decLe}
 use native.Mathlib.Nat.{le-trans, one-le-mul}
@@ -9,11 +9,11 @@ use native.Mathlib.Omega.{arith}
 use borrow.Author.Tests.{le-leb, leb-true, ne-eqb, eqb-true}
 use lib.Dec.{eqb, leb}
 use Rattle.graph.specs.Range.{if}
-use Rattle.graph.specs.Graph.{Graph, Group, edges}
+use Rattle.graph.specs.Graph.{Graph, Group, everyone, edges}
 use Rattle.graph.specs.Shapes.{Closed}
-use Rattle.graph.specs.Core.{Finding}
-use Rattle.graph.specs.Layers.{keep, isIn, stillIn, joins, edgesIn, Layer}
-use Rattle.graph.proofs.Tests.{and-left, if-mono, if-some}
+use Rattle.graph.specs.Core.{FindingInside}
+use Rattle.graph.specs.Layers.{keep, isIn, stillIn, joins, edgesIn, LayerInside}
+use Rattle.graph.proofs.Tests.{and-left, and-both, if-mono, if-some}
 use Rattle.graph.proofs.Sums.{sum-ext, sum-some}
 use Rattle.graph.proofs.Exists.{dense-edges}
 use Rattle.graph.proofs.Density.{finding-bounds}
@@ -39,6 +39,10 @@ in-before l m (suc a) i h = rw (ne-eqb (suc a) 0 (omega arith), le-leb l (suc a)
 pub joins-weight : (g : Graph) (S T : Group) (e : ℕ) → joins g S T e ≡ true → 1 ≤ g .weight e
 joins-weight g S T e h = leb-true 1 _ (and-left _ (S (g .source e) && T (g .target e)) h)
 
+-- an edge with weight is a link among everyone, and no other is
+pub joins-everyone : (g : Graph) (e : ℕ) → (joins g everyone everyone e ≡ true) ↔ (1 ≤ g .weight e)
+joins-everyone g e = (joins-weight g everyone everyone e, λ p. and-both (le-leb 1 _ p) refl)
+
 -- the links from S to T among the edges that pass a test
 pub joins-keep : (g : Graph) (p : ℕ → Bool) (S T : Group) (e : ℕ) → joins (keep g p) S T e ≡ (p e && joins g S T e)
 joins-keep g p S T e = either (p e) (g .weight e)
@@ -60,10 +64,10 @@ taken-edges g L l S T taken = sum-ext (g .size) (λ e h. rw (taken e h) (each (i
     each true false zero = refl
     each true false (suc w) = rw (le-leb 1 (suc w) (omega arith))
 
-module _ {g : Graph} (k : Closed g) {L : ℕ → ℕ} {l : ℕ} where
+module _ {g : Graph} (k : Closed g) {A B : Group} {L : ℕ → ℕ} {l : ℕ} where
   -- a layer is made of the finding of the links still in at its start, told by their weights, and of its links
-  pub layer-make : {x y : ℕ} {S T : Group} (w : ℕ → ℕ) → Finding (weighing g w) x y S T
-      → ((e : ℕ) → e < g .size → w e ≡ stillIn g L l .weight e) → ((e : ℕ) → e < g .size → eqb (L e) l ≡ joins (weighing g w) S T e) → Layer g L l
+  pub layer-make : {x y : ℕ} {S T : Group} (w : ℕ → ℕ) → FindingInside (weighing g w) A B x y S T
+      → ((e : ℕ) → e < g .size → w e ≡ stillIn g L l .weight e) → ((e : ℕ) → e < g .size → eqb (L e) l ≡ joins (weighing g w) S T e) → LayerInside g A B L l
   layer-make {x} {y} {S} {T} w f same taken =
       let found = finding-weights g w (stillIn g L l .weight) same k f in
       let links : (e : ℕ) → e < g .size → eqb (L e) l ≡ joins (stillIn g L l) S T e = λ e h. taken e h ∙ ap (λ t. leb 1 t && (S (g .source e) && T (g .target e))) (same e h) in
@@ -79,28 +83,28 @@ module _ {g : Graph} (k : Closed g) {L : ℕ → ℕ} {l : ℕ} where
       }
 
   -- it has a link
-  pub layer-some : Layer g L l → (e : ℕ) × (e < g .size) × (L e ≡ l) × (1 ≤ g .weight e)
+  pub layer-some : LayerInside g A B L l → (e : ℕ) × (e < g .size) × (L e ≡ l) × (1 ≤ g .weight e)
   layer-some r =
       let some : 1 ≤ edges (stillIn g L l) (r .S) (r .T) = le-trans (one-le-mul (r .finding .x-positive) (r .finding .some)) (dense-edges (closed-weighing k _) (r .finding .core .dense)) in
       let (e, h, p) = sum-some _ (g .size) (rw (r .counted) at some) in
       let (t, q) = if-some (eqb (L e) l) (g .weight e) p in
       (e, h, eqb-true _ _ t, q)
 
-module _ {g : Graph} (k : Closed g) {L L′ : ℕ → ℕ} {l : ℕ} where
+module _ {g : Graph} (k : Closed g) {A B : Group} {L L′ : ℕ → ℕ} {l : ℕ} where
   -- a layer by L is one by L′ where each edge is in it, and is still in at its start, by the one just where by the other
-  pub layer-same : ((e : ℕ) → e < g .size → (isIn l (L e) ≡ isIn l (L′ e)) × (eqb (L e) l ≡ eqb (L′ e) l)) → Layer g L l → Layer g L′ l
+  pub layer-same : ((e : ℕ) → e < g .size → (isIn l (L e) ≡ isIn l (L′ e)) × (eqb (L e) l ≡ eqb (L′ e) l)) → LayerInside g A B L l → LayerInside g A B L′ l
   layer-same same r =
       layer-make k (stillIn g L l .weight) (r .finding) (λ e h. ap (λ t. if t (g .weight e)) (same e h .0)) (λ e h. sym (same e h .1) ∙ r .taken e h)
 
   -- and where the same links are still in, both have the same edges
-  pub layer-unique : ((e : ℕ) → e < g .size → isIn l (L e) ≡ isIn l (L′ e)) → Layer g L l → Layer g L′ l → (e : ℕ) → e < g .size → eqb (L e) l ≡ eqb (L′ e) l
+  pub layer-unique : ((e : ℕ) → e < g .size → isIn l (L e) ≡ isIn l (L′ e)) → LayerInside g A B L l → LayerInside g A B L′ l → (e : ℕ) → e < g .size → eqb (L e) l ≡ eqb (L′ e) l
   layer-unique same r s e h =
       let w : (e : ℕ) → e < g .size → stillIn g L l .weight e ≡ stillIn g L′ l .weight e = λ e h. ap (λ t. if t (g .weight e)) (same e h) in
       let (p, q, i, j) = finding-unique (finding-weights g (stillIn g L l .weight) (stillIn g L′ l .weight) w k (r .finding)) (s .finding) in
       r .taken e h ∙ rw (same e h, i _ (k .source-below e h), j _ (k .target-below e h)) (sym (s .taken e h))
 
 -- x * y never rises from a layer to a later one
-pub layer-product : {g : Graph} → Closed g → {L : ℕ → ℕ} {l m : ℕ} → l ≤ m → (r : Layer g L l) (s : Layer g L m) → s .x * s .y ≤ r .x * r .y
-layer-product {g} k {L} {l} {m} i r s =
+pub layer-product : {g : Graph} → Closed g → {A B : Group} {L : ℕ → ℕ} {l m : ℕ} → l ≤ m → (r : LayerInside g A B L l) (s : LayerInside g A B L m) → s .x * s .y ≤ r .x * r .y
+layer-product {g} k {L = L} {l} {m} i r s =
     r .finding .before (s .x) (s .y) (s .finding .x-positive) (s .finding .y-positive)
     (nonempty-heavier g (stillIn g L m .weight) (stillIn g L l .weight) (λ e h. if-mono (g .weight e) (in-before l m (L e) i)) k (finding-nonempty (s .finding))) .product

@@ -7,6 +7,7 @@ pub mod Sorting
 pub mod Degrees
 pub mod Peel
 pub mod Exists
+pub mod Within
 pub mod Density
 pub mod Before
 pub mod Search
@@ -17,6 +18,8 @@ pub mod Masks
 pub mod Layers
 pub mod Layered
 pub mod Layering
+pub mod Inside
+pub mod Groups
 pub mod Linkage
 pub mod Links
 pub mod Monotone

@@ -6,10 +6,10 @@ use native.Mathlib.Nat.{le-trans, le-refl, le-of-eq}
 use Rattle.graph.specs.Range.{if}
 use Rattle.graph.specs.Graph.{Graph, Group, edges}
 use Rattle.graph.specs.Shapes.{Closed}
-use Rattle.graph.specs.Core.{Dense, Core, Nonempty, Finding}
+use Rattle.graph.specs.Core.{Dense, CoreInside, NonemptyInside, FindingInside}
 use Rattle.graph.proofs.Sums.{sum-mono}
 use Rattle.graph.proofs.Degrees.{only}
-use Rattle.graph.proofs.Exists.{nonempty}
+use Rattle.graph.proofs.Exists.{nonempty-in}
 
 -- the graph with other weights
 abbrev pub weighing : Graph → (ℕ → ℕ) → Graph
@@ -37,8 +37,8 @@ module _ (g : Graph) (w w′ : ℕ → ℕ) (h : (e : ℕ) → e < g .size → w
       }
 
   -- and a core that is not empty is not
-  pub nonempty-heavier : Closed g → {x y : ℕ} → Nonempty (weighing g w) x y → Nonempty (weighing g w′) x y
-  nonempty-heavier k n = nonempty (closed-weighing k w′) (dense-heavier (n .core .dense)) (n .some) (n .other)
+  pub nonempty-heavier : Closed g → {A B : Group} {x y : ℕ} → NonemptyInside (weighing g w) A B x y → NonemptyInside (weighing g w′) A B x y
+  nonempty-heavier k n = nonempty-in (closed-weighing k w′) (n .core .sources) (n .core .targets) (dense-heavier (n .core .dense)) (n .some) (n .other)
 
 module _ (g : Graph) (w w′ : ℕ → ℕ) (h : (e : ℕ) → e < g .size → w e ≡ w′ e) where
   up : (e : ℕ) → e < g .size → w e ≤ w′ e
@@ -48,11 +48,17 @@ module _ (g : Graph) (w w′ : ℕ → ℕ) (h : (e : ℕ) → e < g .size → w
   down e l = le-of-eq (sym (h e l))
 
   -- edges of the same weights have the same cores
-  core-weights : {x y : ℕ} {S T : Group} → Core (weighing g w) x y S T → Core (weighing g w′) x y S T
-  core-weights c = record { dense = dense-heavier g w w′ up (c .dense); largest = λ R Q d. c .largest R Q (dense-heavier g w′ w down d) }
+  core-weights : {A B : Group} {x y : ℕ} {S T : Group} → CoreInside (weighing g w) A B x y S T → CoreInside (weighing g w′) A B x y S T
+  core-weights c =
+      record {
+        sources = c .sources;
+        targets = c .targets;
+        dense = dense-heavier g w w′ up (c .dense);
+        largest = λ R Q i j d. c .largest R Q i j (dense-heavier g w′ w down d);
+      }
 
   -- and the same finding
-  pub finding-weights : Closed g → {x y : ℕ} {S T : Group} → Finding (weighing g w) x y S T → Finding (weighing g w′) x y S T
+  pub finding-weights : Closed g → {A B : Group} {x y : ℕ} {S T : Group} → FindingInside (weighing g w) A B x y S T → FindingInside (weighing g w′) A B x y S T
   finding-weights k f =
       record {
         x-positive = f .x-positive;

@@ -53,6 +53,12 @@ pub count-table : (l₀ l : List ℕ) (n : ℕ) (key : ℕ → ℕ) (e : ℕ) �
 count-table l₀ l n key e z s c =
     table-unique l _ n s (λ a h. let z′ : getD l₀ a 0 ≡ 0 = ap (λ t. getD t a 0) z ∙ getD-zeros n a in omega (arith, c a))
 
+-- what is the same past the first n entries is so past more
+pub drop-more : (l l′ : List ℕ) (n k : ℕ) → n ≤ k → drop n l ≡ drop n l′ → drop k l ≡ drop k l′
+drop-more l l′ n k h e =
+    let s : k ≡ n + (k - n) = omega arith in
+    rw s (sym (drop-drop (k - n) n l) ∙ ap (drop (k - n)) e ∙ drop-drop (k - n) n l′)
+
 -- a table of which only the first n entries are others is as long as it was,
 pub length-past : (l w : List ℕ) (n : ℕ) → length l ≡ n → n ≤ length w → length (l ++ drop n w) ≡ length w
 length-past l w n s h = omega (arith, length-append l (drop n w), length-drop n w)

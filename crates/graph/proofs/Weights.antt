@@ -6,22 +6,23 @@ use mathlib.Core.Path.{refl}
 use native.Mathlib.Nat.{le-trans}
 use Rattle.graph.specs.Graph.{Graph, Group, edges}
 use Rattle.graph.specs.Shapes.{Closed, total}
-use Rattle.graph.specs.Core.{Nonempty}
+use Rattle.graph.specs.Core.{NonemptyInside, Nonempty}
 use Rattle.graph.proofs.Sums.{sum-some, term-le-sum}
 use Rattle.graph.proofs.Degrees.{closed-reverse, only, edges-mono, card-some}
 use Rattle.graph.proofs.Exists.{nonempty-nested, nonempty-reverse}
+use Rattle.graph.proofs.Within.{closed-within, nonempty-within}
 use Rattle.graph.proofs.Density.{bounded}
 
 -- no two groups have more links between them than there are
-pub edges-total : {g : Graph} → Closed g → (S T : Group) → edges g S T ≤ total g
+edges-total : {g : Graph} → Closed g → (S T : Group) → edges g S T ≤ total g
 edges-total k S T = edges-mono k {S = S} {S′ = λ u. true} {T = T} {T′ = λ v. true} (λ u l h. refl) (λ v l h. refl)
 
 -- x is at most the whole weight
-pub nonempty-x : {g : Graph} → Closed g → {x y : ℕ} → Nonempty g x y → x ≤ total g
+pub nonempty-x : {g : Graph} → Closed g → {A B : Group} {x y : ℕ} → NonemptyInside g A B x y → x ≤ total g
 nonempty-x {g} k n = let (u, l, s) = card-some g (n .S) (n .some) in le-trans (n .core .dense .out u l s) (edges-total k (only u) (n .T))
 
 -- and so is y
-pub nonempty-y : {g : Graph} → Closed g → {x y : ℕ} → Nonempty g x y → y ≤ total g
+pub nonempty-y : {g : Graph} → Closed g → {A B : Group} {x y : ℕ} → NonemptyInside g A B x y → y ≤ total g
 nonempty-y k n = nonempty-x (closed-reverse k) (nonempty-reverse n)
 
 -- the [1,1]-core is not empty exactly when some edge has weight
@@ -39,3 +40,7 @@ nonempty-one {g} k = (some, one)
 -- so where there is a link
 pub linked-one : {g : Graph} → Closed g → 1 ≤ total g → Nonempty g 1 1
 linked-one {g} k p = nonempty-one k .1 (sum-some (g .weight) (g .size) p)
+
+-- and where a core inside A and B is not empty, for x and y of at least 1, a link goes from A to B
+pub nonempty-linked : {g : Graph} → Closed g → {A B : Group} {x y : ℕ} → 1 ≤ x → 1 ≤ y → NonemptyInside g A B x y → 1 ≤ edges g A B
+nonempty-linked k {A} {B} {x} {y} p q n = le-trans p (nonempty-x (closed-within k A B) (nonempty-within k A B x y p q .1 n))

@@ -1,6 +1,6 @@
 -- A weighted directed graph, its edges numbered, and what is counted between two groups of its vertices.
 use Prim.Native.Nat.{ℕ, _<_}
-use mathlib.Core.Bool.{Bool, _&&_}
+use mathlib.Core.Bool.{Bool, true, _&&_}
 use mathlib.Core.Path.{_≡_}
 use lib.Dec.{eqb}
 use Rattle.graph.specs.Range.{sum, if}
@@ -25,6 +25,10 @@ reverse g = record { order = g .order; size = g .size; source = g .target; targe
 -- 01: a group, as a test on vertices; only the vertices of the graph count
 abbrev pub Group : Type 0
 Group = ℕ → Bool
+
+-- the group of everyone
+abbrev pub everyone : Group
+everyone u = true
 
 -- 01: |S|
 abbrev pub card : Graph → Group → ℕ

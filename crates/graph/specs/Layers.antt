@@ -1,13 +1,14 @@
--- 02, wish 1: layers. Layer 1 holds the links between the two groups of the finding, layer 2 those between the groups of the finding of what
--- remains without them, and so on until no link remains. L e is the layer of edge e, counted from 1; an edge that is in no layer has 0.
+-- 02, wishes 1 and 5: layers inside A and B. Layer 1 holds the links between the two groups of the finding, layer 2 those between the groups of
+-- the finding of what remains without them, and so on until no link from A to B remains. L e is the layer of edge e, counted from 1; an edge that
+-- is in no layer has 0.
 use Prim.Native.Nat.{ℕ, _+_, _*_, _<_, _≤_}
-use mathlib.Core.Bool.{Bool, _&&_, _||_}
+use mathlib.Core.Bool.{Bool, true, _&&_, _||_}
 use mathlib.Core.Logic.{_↔_}
 use mathlib.Core.Path.{_≡_}
 use lib.Dec.{eqb, leb}
 use Rattle.graph.specs.Range.{sum, if}
-use Rattle.graph.specs.Graph.{Graph, Group, edges}
-use Rattle.graph.specs.Core.{Finding, Bounds}
+use Rattle.graph.specs.Graph.{Graph, Group, everyone, edges}
+use Rattle.graph.specs.Core.{FindingInside, BoundsInside}
 
 -- the graph in which only the edges that pass a test count: every other one is absent, with weight 0
 abbrev pub keep : Graph → (ℕ → Bool) → Graph
@@ -29,21 +30,29 @@ joins g S T e = leb 1 (g .weight e) && (S (g .source e) && T (g .target e))
 abbrev pub edgesIn : Graph → (ℕ → ℕ) → ℕ → ℕ
 edgesIn g L l = sum (λ e. if (eqb (L e) l) (g .weight e)) (g .size)
 
--- Layer l: x, y, S and T are the finding of the links still in at its start. It has exactly those of them from S to T, which are E(S,T), and
--- condition 3 holds over the links still in.
-pub record Layer (g : Graph) (L : ℕ → ℕ) (l : ℕ) : Type 0 where
+-- Layer l: x, y, S and T are the finding inside A and B of the links still in at its start. It has exactly those of them from S to T, which are
+-- E(S,T), and condition 3 holds over the links still in.
+pub record LayerInside (g : Graph) (A B : Group) (L : ℕ → ℕ) (l : ℕ) : Type 0 where
   pub x : ℕ
   pub y : ℕ
   pub S : Group
   pub T : Group
-  pub finding : Finding (stillIn g L l) x y S T
+  pub finding : FindingInside (stillIn g L l) A B x y S T
   pub taken : (e : ℕ) → e < g .size → eqb (L e) l ≡ joins (stillIn g L l) S T e
   pub counted : edges (stillIn g L l) S T ≡ edgesIn g L l
-  pub bounds : Bounds (stillIn g L l) x y S T
+  pub bounds : BoundsInside (stillIn g L l) A B x y S T
 
--- K layers: each link has one, from 1 to K, and an edge that is absent has none; x * y never rises from a layer to the next
-pub record Layering (g : Graph) (L : ℕ → ℕ) (K : ℕ) : Type 0 where
-  pub every : (e : ℕ) → e < g .size → (1 ≤ L e) ↔ (1 ≤ g .weight e)
+-- K layers: each link from A to B has one, from 1 to K, and every other edge has none; x * y never rises from a layer to the next
+pub record LayeringInside (g : Graph) (A B : Group) (L : ℕ → ℕ) (K : ℕ) : Type 0 where
+  pub every : (e : ℕ) → e < g .size → (1 ≤ L e) ↔ (joins g A B e ≡ true)
   pub most : (e : ℕ) → e < g .size → L e ≤ K
-  pub layer : (l : ℕ) → 1 ≤ l → l ≤ K → Layer g L l
-  pub falls : (l : ℕ) (a : Layer g L l) (b : Layer g L (l + 1)) → b .x * b .y ≤ a .x * a .y
+  pub layer : (l : ℕ) → 1 ≤ l → l ≤ K → LayerInside g A B L l
+  pub falls : (l : ℕ) (a : LayerInside g A B L l) (b : LayerInside g A B L (l + 1)) → b .x * b .y ≤ a .x * a .y
+
+-- a layer among everyone,
+abbrev pub Layer : Graph → (ℕ → ℕ) → ℕ → Type 0
+Layer g = LayerInside g everyone everyone
+
+-- and the layers among everyone
+abbrev pub Layering : Graph → (ℕ → ℕ) → ℕ → Type 0
+Layering g = LayeringInside g everyone everyone

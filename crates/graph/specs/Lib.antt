@@ -3,6 +3,7 @@ pub mod Graph
 pub mod Core
 pub mod Quiet
 pub mod Layers
+pub mod Within
 pub mod Order
 pub mod Shapes
 pub mod Sorting

@@ -1,8 +1,9 @@
--- One layer taken from a list: the finding of the edges in no layer makes the next layer, and what is sifted is again the edges in no layer.
+-- One layer taken from a list: the finding of the links in no layer makes the next layer, and what is sifted is again the links in no layer. The
+-- links are those of a graph in which only some edges count.
 use Prim.Native.Nat.{ℕ, suc, _+_, _<_, _≤_}
 use mathlib.Core.Bool.{Bool, true, false, _&&_, cond}
 use mathlib.Core.List.{List}
-use mathlib.Core.Path.{_≡_, refl, sym, ap, _∙_}
+use mathlib.Core.Path.{_≡_, refl, ap, _∙_}
 use native.Mathlib.Nat.{le-trans}
 use native.Mathlib.Numerals.{add-one}
 use native.Mathlib.Omega.{arith}
@@ -13,62 +14,63 @@ use Rattle.graph.specs.Range.{if}
 use Rattle.graph.specs.Graph.{Graph, Group}
 use Rattle.graph.specs.Shapes.{Closed, total}
 use Rattle.graph.specs.Core.{Finding}
-use Rattle.graph.specs.Layers.{joins}
+use Rattle.graph.specs.Layers.{keep, joins}
 use Rattle.graph.specs.Layered.{unlayered, Layered}
 use Rattle.graph.proofs.Tests.{if-some}
 use Rattle.graph.proofs.Sums.{term-le-sum}
-use Rattle.graph.proofs.Masks.{finding-weights}
+use Rattle.graph.proofs.Masks.{closed-weighing, finding-weights}
 use Rattle.graph.proofs.Layered.{layered-next}
-use Rattle.filling.specs.Listed.{times, only}
+use Rattle.filling.specs.Listed.{Lists, only, times, ListOf}
+use Rattle.filling.proofs.Times.{times-entry, times-some}
 use Rattle.layering.specs.Calls.{layerIn}
-use Rattle.layering.specs.Takings.{Unlayered, TakenFrom, Sifted}
-use Rattle.layering.proofs.Times.{times-same, times-entry, times-some}
+use Rattle.layering.specs.Takings.{Making, TakenFrom, Sifted}
 
--- a list with the same front has the same edges there
-pub unlayered-same : {g : Graph} {L : ℕ → ℕ} {l l′ : List ℕ} {k : ℕ} → ((i : ℕ) → i < k → getD l i 0 ≡ getD l′ i 0) → Unlayered g L l k → Unlayered g L l′ k
-unlayered-same {l = l} {l′} {k} h u = record { below = λ i m. rw (← h i m) (u .below i m); once = λ e m. sym (times-same l l′ k e h) ∙ u .once e m }
+-- a list that is not empty has an edge that counts
+pub lists-some : (g : Graph) (l : List ℕ) → Lists g l → 1 ≤ length l → 1 ≤ total (only g l)
+lists-some g l below p = le-trans (times-entry l (length l) 0 p) (term-le-sum (only g l .weight) (g .size) (getD l 0 0) (below 0 p))
 
-module _ {g : Graph} (c : Closed g) (one : (e : ℕ) → e < g .size → g .weight e ≡ 1) (t : List ℕ) {l : List ℕ} (u : Unlayered g (layerIn t) l (length l)) where
-  -- a list that is not empty has an edge that counts
-  pub unlayered-some : 1 ≤ length l → 1 ≤ total (only g l)
-  unlayered-some p = le-trans (times-entry l (length l) 0 p) (term-le-sum (only g l .weight) (g .size) (getD l 0 0) (u .below 0 p))
-
-  -- the edges of the list weigh what those in no layer do
-  weighs : (e : ℕ) → e < g .size → only g l .weight e ≡ unlayered g (layerIn t) .weight e
-  weighs e h = u .once e h ∙ ap (if (eqb (layerIn t e) 0)) (sym (one e h))
-
-  -- an edge stands in the list exactly when it is in no layer
-  listed : (e : ℕ) → e < g .size → leb 1 (times l (length l) e) ≡ eqb (layerIn t e) 0
-  listed e h = rw (u .once e h) (test (eqb (layerIn t e) 0))
+module _ {g : Graph} (c : Closed g) (p : ℕ → Bool) (t : List ℕ) {l : List ℕ} {k : ℕ} (m : Making (keep g p) t l k (length l)) where
+  -- an edge of the list from S to T is a link from S to T that is in no layer, and no other edge is
+  listed : (S T : Group) (e : ℕ) → e < g .size → (leb 1 (times l (length l) e) && joins g S T e) ≡ (eqb (layerIn t e) 0 && joins (keep g p) S T e)
+  listed S T e h = rw (m .left .weighs e h) (test (eqb (layerIn t e) 0) (p e) (g .weight e) (S (g .source e) && T (g .target e)))
     where
-      test : (b : Bool) → leb 1 (if b 1) ≡ b
-      test true = refl
-      test false = refl
+      once : (a b : Bool) → (a && (a && b)) ≡ (a && b)
+      once true b = refl
+      once false b = refl
 
-  module _ (k : ℕ) {d : ℕ} {S T : Group} {t′ : List ℕ} (h : TakenFrom g S T d l (length l) t t′) (new : d ≡ suc k) where
+      test : (z b : Bool) (w : ℕ) (j : Bool) → (leb 1 (if z (if b w)) && (leb 1 w && j)) ≡ (z && (leb 1 (if b w) && j))
+      test false b w j = refl
+      test true false w j = refl
+      test true true w j = once (leb 1 w) j
+
+  module _ {d : ℕ} {S T : Group} {t′ : List ℕ} (h : TakenFrom g S T d l (length l) t t′) (new : d ≡ suc k) where
     -- so what is taken from it, between the groups of its finding, is the next layer
-    pub taken-layered : {x y : ℕ} → Layered g (layerIn t) k → Finding (only g l) x y S T → Layered g (layerIn t′) (k + 1)
-    taken-layered a f =
+    taken-layered : {x y : ℕ} → Finding (only g l) x y S T → Layered (keep g p) (layerIn t′) (k + 1)
+    taken-layered f =
         rw (add-one k)
-        (layered-next c a (finding-weights g (only g l .weight) (unlayered g (layerIn t) .weight) weighs c f)
-        (λ e m. h .taken e ∙ rw (listed e m, new)))
+        (layered-next (closed-weighing c _) (m .layered) (finding-weights g (only g l .weight) (unlayered (keep g p) (layerIn t) .weight) (m .left .weighs) c f)
+        (λ e i. h .taken e ∙ rw (listed S T e i, new)))
 
     -- an edge that is in no layer then was in none before
-    was-in-none : (e : ℕ) → if (eqb (layerIn t′ e) 0) (if (eqb (layerIn t e) 0) 1) ≡ if (eqb (layerIn t′ e) 0) 1
-    was-in-none e = rw (h .taken e) (go (leb 1 (times l (length l) e) && joins g S T e) (eqb (layerIn t e) 0) refl)
+    was-in-none : (e w : ℕ) → if (eqb (layerIn t′ e) 0) (if (eqb (layerIn t e) 0) w) ≡ if (eqb (layerIn t′ e) 0) w
+    was-in-none e w = rw (h .taken e) (go (leb 1 (times l (length l) e) && joins g S T e) (eqb (layerIn t e) 0) refl)
       where
-        go : (b z : Bool) → eqb (layerIn t e) 0 ≡ z → if (eqb (cond b d (layerIn t e)) 0) (if z 1) ≡ if (eqb (cond b d (layerIn t e)) 0) 1
+        go : (b z : Bool) → eqb (layerIn t e) 0 ≡ z → if (eqb (cond b d (layerIn t e)) 0) (if z w) ≡ if (eqb (cond b d (layerIn t e)) 0) w
         go true z i = rw (ne-eqb d 0 (omega (arith, new)))
         go false true i = refl
         go false false i = rw i
 
-    -- and what is sifted from the list is the edges that are in none then
-    pub sifted-unlayered : {l′ : List ℕ} {r : ℕ} → Sifted t′ l l′ (length l) r → Unlayered g (layerIn t′) l′ r
-    sifted-unlayered {l′} {r} s =
+    -- and what is sifted from the list is the links that are in none then
+    sifted-left : {l′ : List ℕ} {r : ℕ} → Sifted t′ l l′ (length l) r → ListOf (unlayered (keep g p) (layerIn t′)) l′ r
+    sifted-left {l′} {r} s =
         record {
-          below = λ i m.
-              let (p, q) = if-some (eqb (layerIn t′ (getD l′ i 0)) 0) (times l (length l) (getD l′ i 0)) (rw (s .kept (getD l′ i 0)) at (times-entry l′ r i m)) in
-              let (j, n, e) = times-some l (length l) (getD l′ i 0) q in
-              rw (← e) (u .below j n);
-          once = λ e m. s .kept e ∙ ap (if (eqb (layerIn t′ e) 0)) (u .once e m) ∙ was-in-none e;
+          below = λ i n.
+              let (q, some) = if-some (eqb (layerIn t′ (getD l′ i 0)) 0) (times l (length l) (getD l′ i 0)) (rw (s .kept (getD l′ i 0)) at (times-entry l′ r i n)) in
+              let (j, o, e) = times-some l (length l) (getD l′ i 0) some in
+              rw (← e) (m .left .below j o);
+          weighs = λ e n. s .kept e ∙ ap (if (eqb (layerIn t′ e) 0)) (m .left .weighs e n) ∙ was-in-none e (keep g p .weight e);
         }
+
+    -- together one layer more
+    pub taken-making : {x y : ℕ} {l′ : List ℕ} {r : ℕ} → Finding (only g l) x y S T → Sifted t′ l l′ (length l) r → Making (keep g p) t′ l′ (k + 1) r
+    taken-making f s = record { layered = taken-layered f; left = sifted-left s }

@@ -1,4 +1,4 @@
--- How often an edge stands in the front of a list, as the edges of the list are taken into a layer and the others are moved to its front.
+-- The edges of a list are taken into a layer, and the others are moved to its front.
 use Prim.Native.Nat.{ℕ, _+_, _<_, _≤_}
 use mathlib.Core.Bool.{Bool, true, false, _&&_, cond}
 use mathlib.Core.List.{List}
@@ -7,30 +7,19 @@ use mathlib.Core.Path.{_≡_, refl, sym, ap, _∙_}
 use native.Mathlib.Decide.{ℕ-discrete}
 use native.Mathlib.Nat.{le-refl}
 use native.Mathlib.Omega.{arith}
-use borrow.Author.Tests.{le-leb, eqb-true}
+use borrow.Author.Tests.{le-leb}
 use lib.Dec.{eqb, leb}
 use lib.ListN.{length, getD, set, length-set}
 use lib.Seq.{getD-set-same, getD-set-other}
 use Rattle.graph.specs.Range.{if}
 use Rattle.graph.specs.Graph.{Graph, Group}
 use Rattle.graph.specs.Layers.{joins}
-use Rattle.graph.proofs.Tests.{if-some, if-same, if-other}
-use Rattle.graph.proofs.Sums.{sum-ext, sum-next, sum-empty, sum-some, term-le-sum}
+use Rattle.graph.proofs.Tests.{if-other}
+use Rattle.graph.proofs.Sums.{sum-next, sum-empty}
 use Rattle.filling.specs.Listed.{times}
+use Rattle.filling.proofs.Times.{times-entry, times-put}
 use Rattle.layering.specs.Calls.{layerIn}
 use Rattle.layering.specs.Takings.{TakenFrom, Sifted}
-
--- lists with the same front have each edge as often in it
-pub times-same : (l l′ : List ℕ) (k e : ℕ) → ((i : ℕ) → i < k → getD l i 0 ≡ getD l′ i 0) → times l k e ≡ times l′ k e
-times-same l l′ k e h = sum-ext k (λ i m. rw (h i m))
-
--- an entry stands there
-pub times-entry : (l : List ℕ) (k i : ℕ) → i < k → 1 ≤ times l k (getD l i 0)
-times-entry l k i h = omega (arith, term-le-sum (λ j. if (eqb (getD l j 0) (getD l i 0)) 1) k i h, if-same (getD l i 0) (getD l i 0) 1 refl)
-
--- and what stands there is an entry
-pub times-some : (l : List ℕ) (k e : ℕ) → 1 ≤ times l k e → (i : ℕ) × (i < k) × (getD l i 0 ≡ e)
-times-some l k e h = let (i, m, p) = sum-some _ k h in (i, m, eqb-true _ _ (if-some (eqb (getD l i 0) e) 1 p .0))
 
 module _ {g : Graph} {S T : Group} {c : ℕ} (l : List ℕ) where
   -- at first no edge is taken
@@ -86,7 +75,7 @@ pub sifted-next : {t l l₁ l₂ : List ℕ} {k r r₂ : ℕ} → Sifted t l l�
     → r₂ ≡ r + if (eqb (layerIn t (getD l₁ k 0)) 0) 1 → Sifted t l l₂ (k + 1) r₂
 sifted-next {t} {l} {l₁} {l₂} {k} {r} h below e p = rw (e, p) record {
   few = few (eqb (layerIn t d) 0);
-  kept = λ a. more a (eqb (layerIn t d) 0) ∙ ap (λ n. n + if (eqb (layerIn t d) 0) (if (eqb d a) 1)) (h .kept a) ∙ counted a;
+  kept = λ a. times-put l₁ r d (omega (arith, h .few, h .same-length)) a (eqb (layerIn t d) 0) ∙ ap (λ n. n + if (eqb (layerIn t d) 0) (if (eqb d a) 1)) (h .kept a) ∙ counted a;
   ahead = λ i m. getD-set-other l₁ r i d 0 (λ j. omega (arith, h .few)) ∙ h .ahead i (omega arith);
   same-length = length-set l₁ r d ∙ h .same-length;
 }
@@ -94,19 +83,9 @@ sifted-next {t} {l} {l₁} {l₂} {k} {r} h below e p = rw (e, p) record {
     d : ℕ
     d = getD l₁ k 0
 
-    front : (a : ℕ) → times (set l₁ r d) r a ≡ times l₁ r a
-    front a = times-same (set l₁ r d) l₁ r a (λ i m. getD-set-other l₁ r i d 0 (λ j. omega arith))
-
     few : (b : Bool) → r + if b 1 ≤ k + 1
     few true = omega (arith, h .few)
     few false = omega (arith, h .few)
-
-    -- the front that stays is as it was, and the entry comes after it
-    more : (a : ℕ) (b : Bool) → times (set l₁ r d) (r + if b 1) a ≡ times l₁ r a + if b (if (eqb d a) 1)
-    more a true =
-        sum-next (λ i. if (eqb (getD (set l₁ r d) i 0) a) 1) r
-        ∙ rw (getD-set-same l₁ r d 0 (omega (arith, h .few, h .same-length))) (ap (_+ if (eqb d a) 1) (front a))
-    more a false = ap (λ n. times (set l₁ r d) n a) (omega arith) ∙ front a ∙ omega arith
 
     -- in the list as it was the entry is the next
     last : (a : ℕ) → times l (k + 1) a ≡ times l k a + if (eqb d a) 1

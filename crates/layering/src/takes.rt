@@ -1,16 +1,14 @@
 // The layers, one after the other. A list has the edges that are in no layer yet, and the work table is filled from it anew for each layer, so
 // that a layer costs what is still in.
 use filling::fill;
+use filling::is_between;
+use filling::list_edges;
 use finding::find_in;
 use network::MOST_LINKS;
 use network::MOST_MEMBERS;
-use network::Side;
-use network::end_at;
 use network::order_of;
-use network::size_of;
 use network::wide16;
 use ordering::clear;
-use ordering::count_up;
 ghost use mathlib.Core.Bool.{cond};
 ghost use mathlib.Core.Path.{_≡_};
 ghost use Prim.Native.Nat.{ℕ, _+_, _<_, _≤_};
@@ -18,26 +16,14 @@ ghost use lib.Dec.{eqb};
 ghost use lib.ListN.{length, getD, set};
 ghost use Rattle.graph.specs.Range.{if};
 ghost use Rattle.graph.specs.Layers.{joins, Layering};
-ghost use Rattle.graph.specs.Layered.{Layered};
-ghost use Rattle.network.specs.File.{graphOf};
+ghost use Rattle.graph.specs.Within.{within};
+ghost use Rattle.network.specs.File.{mostLinks, graphOf};
 ghost use Rattle.network.specs.Groups.{groupOf};
 ghost use Rattle.network.specs.Refusals.{workLength};
 ghost use Rattle.network.specs.Accepted.{Accepted, Sound};
 ghost use Rattle.filling.specs.Listed.{Lists};
 ghost use Rattle.layering.specs.Calls.{layerIn};
-ghost use Rattle.layering.specs.Takings.{Unlayered, TakenFrom, Sifted, OneMore};
-
-// Whether an edge goes from S to T.
-fn is_between(file: &[u8], edge: usize, s: &[u8], t: &[u8]) -> bool
-    requires { ⌜ Sound (now file) × (edge < graphOf (now file) .size) ⌝ }
-    requires { ⌜ (graphOf (now file) .order ≤ length (now s)) × (graphOf (now file) .order ≤ length (now t)) ⌝ }
-    ensures { λ r. ⌜ r ≡ joins (graphOf (now (file .entry))) (groupOf (now (s .entry))) (groupOf (now (t .entry))) edge ⌝ }
-{
-    if s[end_at(file, Side::Source, edge)] != 1 {
-        return false;
-    }
-    t[end_at(file, Side::Target, edge)] == 1
-}
+ghost use Rattle.layering.specs.Takings.{TakenFrom, Sifted, OneMore};
 
 // An edge from S to T put into a layer.
 fn take_edge(file: &[u8], edge: usize, s: &[u8], t: &[u8], layer: u16, layers: &mut [u16])
@@ -95,10 +81,8 @@ fn take_layer(
     edges: &mut [u16],
     work: &mut [u16],
 ) -> usize
-    requires { ⌜ Accepted (now file) ⌝ }
-    requires { ⌜ Layered (graphOf (now file)) (layerIn (now layers)) made ⌝ }
-    requires { ⌜ Unlayered (graphOf (now file)) (layerIn (now layers)) (now edges) (length (now edges)) ⌝ }
-    requires { ⌜ (1 ≤ length (now edges)) × (length (now edges) ≤ graphOf (now file) .size) ⌝ }
+    requires { ⌜ Accepted (now file) × (made ≤ mostLinks) ⌝ }
+    requires { ⌜ Lists (graphOf (now file)) (now edges) × (1 ≤ length (now edges)) × (length (now edges) ≤ graphOf (now file) .size) ⌝ }
     requires { ⌜ (graphOf (now file) .size ≤ length (now layers)) × (workLength (graphOf (now file) .order) (graphOf (now file) .size) ≤ length (now work)) ⌝ }
     ensures { λ r. ⌜ OneMore (graphOf (now (file .entry))) made (now (layers .entry)) (now (layers .exit)) (now (edges .entry)) (now (edges .exit)) r ⌝ }
     ensures { λ _. ⌜ length (now (work .exit)) ≡ length (now (work .entry)) ⌝ }
@@ -111,17 +95,17 @@ fn take_layer(
     sift(layers, edges)
 }
 
-// Every edge put into its layer, and the number of layers.
-pub fn layer_links(file: &[u8], layers: &mut [u16], work: &mut [u16]) -> usize
+// Every edge from A to B put into its layer, every other one into none, and the number of layers.
+pub fn layer_links(file: &[u8], a: &[u8], b: &[u8], layers: &mut [u16], work: &mut [u16]) -> usize
     requires { ⌜ Accepted (now file) ⌝ }
+    requires { ⌜ (graphOf (now file) .order ≤ length (now a)) × (graphOf (now file) .order ≤ length (now b)) ⌝ }
     requires { ⌜ (length (now layers) ≡ graphOf (now file) .size) × (workLength (graphOf (now file) .order) (graphOf (now file) .size) ≤ length (now work)) ⌝ }
-    ensures { λ r. ⌜ Layering (graphOf (now (file .entry))) (layerIn (now (layers .exit))) r ⌝ }
+    ensures { λ r. ⌜ Layering (within (graphOf (now (file .entry))) (groupOf (now (a .entry))) (groupOf (now (b .entry)))) (layerIn (now (layers .exit))) r ⌝ }
     ensures { λ _. ⌜ (length (now (layers .exit)) ≡ length (now (layers .entry))) × (length (now (work .exit)) ≡ length (now (work .entry))) ⌝ }
 {
     let mut edges = [0u16; MOST_LINKS];
-    let mut left = size_of(file);
     clear(layers);
-    count_up(left, &mut edges);
+    let mut left = list_edges(file, a, b, &mut edges);
     let mut made = 0;
     while 0 < left {
         left = take_layer(file, made, layers, &mut edges[0..left], work);

@@ -7,7 +7,7 @@ use borrow.Author.Tests.{ne-eqb}
 use Rattle.network.specs.declared.Refusal.{Refusal}
 use Rattle.network.specs.File.{none, plain}
 use Rattle.network.specs.Refusals.{orElse}
-use Rattle.network.specs.Calls.{Call, refused}
+use Rattle.network.specs.Calls.{Call, refused, accepted}
 
 -- a refusal of a number that is not 0 is one
 pub refusal-some : {r : Refusal} → r .number ≢ 0 → r ≢ none
@@ -27,6 +27,12 @@ call-refused e n = call-kept e n refl
 pub call-plain : {Answer Value : Type 0} {refusal q : Refusal} {tells : Refusal → Answer} {answers : Value → Answer} {before : List (List ℕ)} {done : Value → Type 0}
     (k : ℕ) → k ≢ 0 → q ≡ plain k → plain k ≡ refusal → Call refusal tells answers before before done (tells q)
 call-plain k n e i = call-refused (e ∙ i) (rw e n)
+
+-- a call that has done one thing where it is accepted has done what follows from that
+pub call-done : {Answer Value : Type 0} {refusal refusal′ : Refusal} {tells : Refusal → Answer} {answers : Value → Answer} {before after : List (List ℕ)}
+    {done done′ : Value → Type 0} {answer : Answer} → refusal ≡ refusal′ → ((v : Value) → refusal ≡ none → done v → done′ v)
+    → Call refusal tells answers before after done answer → Call refusal′ tells answers before after done′ answer
+call-done e h c = rw (← e) (elim c [ refused n i k ↦ refused n i k | accepted v n i d ↦ accepted v n i (h v n d) ])
 
 -- an earlier refusal is that of the call
 pub orElse-first : {r : Refusal} (s : Refusal) → r .number ≢ 0 → orElse r s ≡ r

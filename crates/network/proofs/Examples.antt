@@ -81,6 +81,13 @@ pub W-written : written (graphOf mixedW) ≡ W
 unfolding sum first flat rankBy nthBy
 W-written = refl
 
+-- the group of five members, and of all six of W
+abbrev five : List ℕ
+five = 1 ∷ 1 ∷ 1 ∷ 1 ∷ 1 ∷ []
+
+abbrev six : List ℕ
+six = 1 ∷ five
+
 -- what is given for a call, and what is to be given
 pub record Call : Type 0 where
   pub given : Refusal
@@ -107,35 +114,47 @@ calls =
     ∷ record { given = countRefusal (small 2 0 []) (0 ∷ 2 ∷ []) (0 ∷ 1 ∷ []); expected = plain 11 }
     ∷ record { given = countRefusal (small 2 0 []) (0 ∷ 1 ∷ []) (2 ∷ 0 ∷ []); expected = plain 11 }
     ∷ record { given = countRefusal (small 2 0 []) (0 ∷ 1 ∷ 2 ∷ []) (1 ∷ 0 ∷ []); expected = none }
-    ∷ record { given = coreRefusal (0 ∷ []) 0 0 0; expected = plain 1 }
-    ∷ record { given = coreRefusal W 5 6 54; expected = plain 9 }
-    ∷ record { given = coreRefusal W 6 5 54; expected = plain 9 }
-    ∷ record { given = coreRefusal W 6 6 53; expected = plain 9 }
-    ∷ record { given = coreRefusal W 6 6 54; expected = none }
-    ∷ record { given = coreRefusal (small 1 0 []) 1 1 7; expected = plain 9 }
-    ∷ record { given = coreRefusal (small 1 0 []) 1 1 8; expected = none }
-    ∷ record { given = levelRefusal (0 ∷ []) 0 0; expected = plain 1 }
-    ∷ record { given = levelRefusal W 0 53; expected = plain 9 }
-    ∷ record { given = levelRefusal W 0 54; expected = plain 12 }
-    ∷ record { given = levelRefusal W 1 54; expected = none }
-    ∷ record { given = equalLevelRefusal (0 ∷ []) 0; expected = plain 1 }
-    ∷ record { given = equalLevelRefusal W 53; expected = plain 9 }
-    ∷ record { given = equalLevelRefusal W 54; expected = none }
-    ∷ record { given = layersRefusal (0 ∷ []) 0 0; expected = plain 1 }
-    ∷ record { given = layersRefusal W 7 54; expected = plain 9 }
-    ∷ record { given = layersRefusal W 8 53; expected = plain 9 }
-    ∷ record { given = layersRefusal (small 1 0 []) 0 7; expected = plain 9 }
-    ∷ record { given = layersRefusal (small 1 0 []) 0 8; expected = none }
-    ∷ record { given = layersRefusal W 8 54; expected = none }
+    ∷ record { given = coreRefusal (0 ∷ []) [] [] 0 0 0; expected = plain 1 }
+    ∷ record { given = coreRefusal W five six 6 6 54; expected = plain 9 }
+    ∷ record { given = coreRefusal W six five 6 6 54; expected = plain 9 }
+    ∷ record { given = coreRefusal W six six 5 6 54; expected = plain 9 }
+    ∷ record { given = coreRefusal W six six 6 5 54; expected = plain 9 }
+    ∷ record { given = coreRefusal W six six 6 6 53; expected = plain 9 }
+    ∷ record { given = coreRefusal W (2 ∷ five) six 6 6 53; expected = plain 9 }
+    ∷ record { given = coreRefusal W (2 ∷ five) six 6 6 54; expected = plain 11 }
+    ∷ record { given = coreRefusal W six (255 ∷ five) 6 6 54; expected = plain 11 }
+    ∷ record { given = coreRefusal W (0 ∷ five) (0 ∷ 0 ∷ 1 ∷ 0 ∷ 1 ∷ 0 ∷ 2 ∷ []) 6 6 54; expected = none }
+    ∷ record { given = coreRefusal W six six 6 6 54; expected = none }
+    ∷ record { given = coreRefusal (small 1 0 []) (1 ∷ []) (1 ∷ []) 1 1 7; expected = plain 9 }
+    ∷ record { given = coreRefusal (small 1 0 []) (1 ∷ []) (1 ∷ []) 1 1 8; expected = none }
+    ∷ record { given = levelRefusal (0 ∷ []) [] [] 0 0; expected = plain 1 }
+    ∷ record { given = levelRefusal W six five 0 54; expected = plain 9 }
+    ∷ record { given = levelRefusal W six six 0 53; expected = plain 9 }
+    ∷ record { given = levelRefusal W six (2 ∷ five) 0 54; expected = plain 11 }
+    ∷ record { given = levelRefusal W six six 0 54; expected = plain 12 }
+    ∷ record { given = levelRefusal W six six 1 54; expected = none }
+    ∷ record { given = equalLevelRefusal (0 ∷ []) [] [] 0; expected = plain 1 }
+    ∷ record { given = equalLevelRefusal W five six 54; expected = plain 9 }
+    ∷ record { given = equalLevelRefusal W six six 53; expected = plain 9 }
+    ∷ record { given = equalLevelRefusal W (2 ∷ five) six 54; expected = plain 11 }
+    ∷ record { given = equalLevelRefusal W six six 54; expected = none }
+    ∷ record { given = layersRefusal (0 ∷ []) [] [] 0 0; expected = plain 1 }
+    ∷ record { given = layersRefusal W six five 8 54; expected = plain 9 }
+    ∷ record { given = layersRefusal W six six 7 54; expected = plain 9 }
+    ∷ record { given = layersRefusal W (2 ∷ five) six 8 53; expected = plain 9 }
+    ∷ record { given = layersRefusal W (2 ∷ five) six 8 54; expected = plain 11 }
+    ∷ record { given = layersRefusal (small 1 0 []) (1 ∷ []) (1 ∷ []) 0 7; expected = plain 9 }
+    ∷ record { given = layersRefusal (small 1 0 []) (1 ∷ []) (1 ∷ []) 0 8; expected = none }
+    ∷ record { given = layersRefusal W six six 8 54; expected = none }
     ∷ record { given = writeRefusal (0 ∷ []) 0; expected = plain 1 }
     ∷ record { given = writeRefusal W 40; expected = plain 9 }
     ∷ record { given = writeRefusal W 41; expected = none }
     ∷ record { given = indexRefusal [] 1 0 0 0; expected = plain 9 }
     ∷ record { given = indexRefusal [] 1 0 1 0; expected = none }
-    ∷ record { given = coreRefusal [] 0 0 1; expected = plain 9 }
-    ∷ record { given = coreRefusal [] 0 0 2; expected = none }
-    ∷ record { given = layersRefusal [] 0 1; expected = plain 9 }
-    ∷ record { given = layersRefusal [] 0 2; expected = none }
+    ∷ record { given = coreRefusal [] [] [] 0 0 1; expected = plain 9 }
+    ∷ record { given = coreRefusal [] [] [] 0 0 2; expected = none }
+    ∷ record { given = layersRefusal [] [] [] 0 1; expected = plain 9 }
+    ∷ record { given = layersRefusal [] [] [] 0 2; expected = none }
     ∷ record { given = writeRefusal [] 8; expected = plain 9 }
     ∷ record { given = writeRefusal [] 9; expected = none }
     ∷ []

@@ -16,6 +16,14 @@ orElse r s = cond (eqb (r .number) 0) s r
 abbrev pub inOrder : List ℕ → Bool → Refusal → Refusal
 inOrder f short later = orElse (fileRefusal f) (cond short (plain 9) later)
 
+-- one of the tables of two groups is short for n members
+abbrev pub shortGroups : ℕ → List ℕ → List ℕ → Bool
+shortGroups n s t = ltb (length s) n || ltb (length t) n
+
+-- 11 where one of them has a byte among the first n that is neither 0 nor 1, and what comes after
+abbrev pub inGroups : ℕ → List ℕ → List ℕ → Refusal → Refusal
+inGroups n s t later = cond (not (isGroup n s && isGroup n t)) (plain 11) later
+
 -- 01: the length of the work table of core, level, equal level, finding and layers, for n members and m links
 abbrev pub workLength : ℕ → ℕ → ℕ
 workLength n m = 2 * m + 6 * n + 2
@@ -38,32 +46,33 @@ rowRefusal starts rows u =
 unfoldable pub countRefusal : List ℕ → List ℕ → List ℕ → Refusal
 countRefusal f s t =
     let g = graphOf f in
-    inOrder f (ltb (length s) (g .order) || ltb (length t) (g .order))
-    (cond (not (isGroup (g .order) s && isGroup (g .order) t)) (plain 11) none)
+    inOrder f (shortGroups (g .order) s t) (inGroups (g .order) s t none)
 
--- the file, and the lengths of the two groups and of the work table: of core and of finding
-unfoldable pub coreRefusal : List ℕ → ℕ → ℕ → ℕ → Refusal
-coreRefusal f s t w =
+-- the file, A and B, and the lengths of the two groups and of the work table: of core and of finding
+unfoldable pub coreRefusal : List ℕ → List ℕ → List ℕ → ℕ → ℕ → ℕ → Refusal
+coreRefusal f a b s t w =
     let g = graphOf f in
-    inOrder f (ltb s (g .order) || ltb t (g .order) || ltb w (workLength (g .order) (g .size))) none
+    inOrder f (shortGroups (g .order) a b || ltb s (g .order) || ltb t (g .order) || ltb w (workLength (g .order) (g .size)))
+    (inGroups (g .order) a b none)
 
--- the file, x or y, and the length of the work table: of level and of level across
-unfoldable pub levelRefusal : List ℕ → ℕ → ℕ → Refusal
-levelRefusal f x w =
+-- the file, A and B, x or y, and the length of the work table: of level and of level across
+unfoldable pub levelRefusal : List ℕ → List ℕ → List ℕ → ℕ → ℕ → Refusal
+levelRefusal f a b x w =
     let g = graphOf f in
-    inOrder f (ltb w (workLength (g .order) (g .size))) (cond (eqb x 0) (plain 12) none)
+    inOrder f (shortGroups (g .order) a b || ltb w (workLength (g .order) (g .size)))
+    (inGroups (g .order) a b (cond (eqb x 0) (plain 12) none))
 
--- the file and the length of the work table
-unfoldable pub equalLevelRefusal : List ℕ → ℕ → Refusal
-equalLevelRefusal f w =
+-- the file, A and B, and the length of the work table
+unfoldable pub equalLevelRefusal : List ℕ → List ℕ → List ℕ → ℕ → Refusal
+equalLevelRefusal f a b w =
     let g = graphOf f in
-    inOrder f (ltb w (workLength (g .order) (g .size))) none
+    inOrder f (shortGroups (g .order) a b || ltb w (workLength (g .order) (g .size))) (inGroups (g .order) a b none)
 
--- the file, and the lengths of the layer table and of the work table
-unfoldable pub layersRefusal : List ℕ → ℕ → ℕ → Refusal
-layersRefusal f l w =
+-- the file, A and B, and the lengths of the layer table and of the work table
+unfoldable pub layersRefusal : List ℕ → List ℕ → List ℕ → ℕ → ℕ → Refusal
+layersRefusal f a b l w =
     let g = graphOf f in
-    inOrder f (ltb l (g .size) || ltb w (workLength (g .order) (g .size))) none
+    inOrder f (shortGroups (g .order) a b || ltb l (g .size) || ltb w (workLength (g .order) (g .size))) (inGroups (g .order) a b none)
 
 -- the file and the length of the output
 unfoldable pub writeRefusal : List ℕ → ℕ → Refusal

@@ -37,7 +37,7 @@ module _ {g : Graph} (x y : ℕ) {m : ℕ} {w : List ℕ} {s : Peel} (c : Closed
   -- so where the core is not empty, somebody is left on both sides
   pub left-both : Nonempty g x y → (1 ≤ s .sources) × (1 ≤ s .targets)
   left-both h =
-      let (p, q) = surrounds-covers c surrounds _ _ (h .core .dense) in
+      let (p, q) = surrounds-covers c surrounds _ _ (h .core .sources) (h .core .targets) (h .core .dense) in
       (omega (arith, h .some, card-mono g p, k .queued .sizes .sources), omega (arith, h .other, card-mono g q, k .queued .sizes .targets))
 
   -- no place waits any more

@@ -50,18 +50,19 @@ fn try_row(file: &[u8]) {
 }
 
 fn try_finding(file: &[u8]) {
+    let everyone = [1u8; 6];
     let mut s = [0u8; 6];
     let mut t = [0u8; 6];
     let mut work = [0u16; 54];
-    match cogsplice::core(file, 1, 2, &mut s, &mut t, &mut work) {
+    match cogsplice::core(file, &everyone, &everyone, 1, 2, &mut s, &mut t, &mut work) {
         TotalsAnswer::Counted(totals) => say(b"[1,2]-core", totals.sources, totals.targets),
         TotalsAnswer::Refused(refusal) => say_refused(refusal.number, refusal.link),
     }
-    match cogsplice::level(file, 1, &mut work) {
+    match cogsplice::level(file, &everyone, &everyone, 1, &mut work) {
         LevelAnswer::At(level) => say(b"level", 1, level),
         LevelAnswer::Refused(refusal) => say_refused(refusal.number, refusal.link),
     }
-    match cogsplice::finding(file, &mut s, &mut t, &mut work) {
+    match cogsplice::finding(file, &everyone, &everyone, &mut s, &mut t, &mut work) {
         FindingAnswer::Found(ring) => say(b"finding", ring.x, ring.y),
         FindingAnswer::Refused(refusal) => say_refused(refusal.number, refusal.link),
     }
@@ -73,9 +74,10 @@ fn say_layers(number: usize, last: u16) {
 
 // How many layers there are, and which one the last link is in.
 fn try_layers(file: &[u8]) {
+    let everyone = [1u8; 6];
     let mut layers = [0u16; 8];
     let mut work = [0u16; 54];
-    match cogsplice::layers(file, &mut layers, &mut work) {
+    match cogsplice::layers(file, &everyone, &everyone, &mut layers, &mut work) {
         LayersAnswer::Made(number) => say_layers(number, layers[7]),
         LayersAnswer::Refused(refusal) => say_refused(refusal.number, refusal.link),
     }

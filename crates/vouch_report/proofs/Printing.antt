@@ -1,13 +1,18 @@
--- From the finding call to what is printed: the program's tables are as long as the largest file needs, so that 9 is never given, and
--- the answer tells the refusal or what is found.
-use Prim.Native.Nat.{ℕ}
+-- From the finding call to what is printed: the program's tables are as long as the largest file needs, so that 9 is never given, and hold
+-- everyone, so that 11 is not either; and the answer tells the refusal or what is found among everyone.
+use Prim.Native.Nat.{ℕ, _≤_}
+use mathlib.Core.Bool.{true}
 use mathlib.Core.List.{List}
 use mathlib.Core.Path.{_≡_, sym, ap, _∙_}
 use native.Mathlib.Decide.{decLe}
 use native.Mathlib.Omega.{arith}
-use lib.ListN.{length}
+use borrow.Author.Tests.{eq-eqb}
+use lib.Dec.{ltb}
+use lib.ListN.{length, getD, replicate, getD-replicate, length-replicate}
+use Rattle.graph.proofs.Ranges.{first-none}
 use Rattle.network.specs.declared.Refusal.{Refusal}
 use Rattle.network.specs.File.{mostMembers, mostLinks, graphOf, none, fileRefusal}
+use Rattle.network.specs.Groups.{isGroup, AllIn}
 use Rattle.network.specs.Refusals.{workLength, coreRefusal}
 use Rattle.network.specs.Accepted.{Sound}
 use Rattle.network.specs.Calls.{refused, accepted}
@@ -23,31 +28,46 @@ use Rattle.report.specs.Text.{refusalText, reportText, Begins}
 use Rattle.vouch_report.specs.Printed.{Rendered}
 use Rattle.vouch_report.specs.Parts.{refusalOf, numbersOf}
 
--- tables for the largest file are long enough for every file, so that the finding is refused as the file is
-finding-full : (f : List ℕ) → coreRefusal f mostMembers mostMembers (workLength mostMembers mostLinks) ≡ fileRefusal f
+-- the group of everyone, in the largest file and so in every one
+abbrev pub ones : List ℕ
+ones = replicate mostMembers 1
+
+-- each of its bytes is 1,
+ones-all : (n : ℕ) → n ≤ mostMembers → AllIn n ones
+ones-all n h u l = getD-replicate mostMembers u 1 0 (omega arith)
+
+-- so that it is a group
+ones-group : (n : ℕ) → n ≤ mostMembers → isGroup n ones ≡ true
+ones-group n h = eq-eqb _ _ (first-none (λ u. ltb 1 (getD ones u 0)) n (λ u l. rw (ones-all n h u l)))
+
+-- tables for the largest file are long enough for every file, so that the finding among everyone is refused as the file is
+finding-full : (f : List ℕ) → coreRefusal f ones ones mostMembers mostMembers (workLength mostMembers mostLinks) ≡ fileRefusal f
 unfolding coreRefusal
 finding-full f =
     elim (decLe (fileRefusal f .number) 0) [
       | no n ↦ orElse-first _ (λ i. n (omega (arith, i)))
       | yes z ↦ let e = file-proper f .number-none (omega (arith, z)) in
           let h = file.accepted f .0 e .sound .header in
-          core-none f mostMembers mostMembers (workLength mostMembers mostLinks) e (h .order-most) (h .order-most) (omega (arith, h)) ∙ sym e
+          let long : graphOf f .order ≤ length ones = omega (arith, length-replicate {A = ℕ} mostMembers 1, h .order-most) in
+          let group = ones-group (graphOf f .order) (h .order-most) in
+          core-none f ones ones mostMembers mostMembers (workLength mostMembers mostLinks) e
+          record { a-long = long; b-long = long; sources = h .order-most; targets = h .order-most; work = omega (arith, h) } (group, group) ∙ sym e
     ]
 
 -- the lengths of the program's tables
 abbrev pub Full : List ℕ → List ℕ → List ℕ → Type 0
 Full s t w = (length s ≡ mostMembers) × (length t ≡ mostMembers) × (length w ≡ workLength mostMembers mostLinks)
 
-module _ {f s s′ t t′ w w′ : List ℕ} {a : FindingAnswer} (z : Full s t w) (c : FindingCall f s s′ t t′ w w′ a) where
+module _ {f s s′ t t′ w w′ : List ℕ} {a : FindingAnswer} (z : Full s t w) (c : FindingCall f ones ones s s′ t t′ w w′ a) where
   -- in them the call is refused as the file is
-  call-refusal : coreRefusal f (length s) (length t) (length w) ≡ fileRefusal f
+  call-refusal : coreRefusal f ones ones (length s) (length t) (length w) ≡ fileRefusal f
   call-refusal = rw (z .0, z .1, z .2) (finding-full f)
 
   -- a refused finding: its line is printed
   pub rendered-refused : {before after : List ℕ} {r : ℕ} (q : Refusal) → a ≡ Refused q → {p : Refusal} → p ≡ refusalOf a → Begins before (refusalText p) after r → Rendered f before after r
   rendered-refused q i {p} e b = elim (c .call) [
     | refused n j k ↦
-        let told : q ≡ coreRefusal f (length s) (length t) (length w) = cc in
+        let told : q ≡ coreRefusal f ones ones (length s) (length t) (length w) = cc in
         let same : p ≡ fileRefusal f = e ∙ ap refusalOf i ∙ told ∙ call-refusal in
         record {
           text = refusalText p;
@@ -58,7 +78,7 @@ module _ {f s s′ t t′ w w′ : List ℕ} {a : FindingAnswer} (z : Full s t w
   ]
 
   -- the call that found has found this
-  found-told : (g : Ring) → a ≡ Found g → (coreRefusal f (length s) (length t) (length w) ≡ none) × FindingTold f s s′ t t′ w w′ g
+  found-told : (g : Ring) → a ≡ Found g → (coreRefusal f ones ones (length s) (length t) (length w) ≡ none) × FindingTold f ones ones s s′ t t′ w w′ g
   found-told g i = elim (c .call) [
     | refused n j k ↦ absurd (let x : _≡_ {A = ℕ} 0 1 = cc in omega arith)
     | accepted v n j d ↦ let x : v ≡ g = cc in (n, rw x at d)
@@ -72,6 +92,7 @@ module _ {f s s′ t t′ w w′ : List ℕ} {a : FindingAnswer} (z : Full s t w
   pub rendered-found : {before after : List ℕ} {r : ℕ} (g : Ring) → a ≡ Found g → {n : ℕ} → n ≡ graphOf f .order → Begins before (reportText (numbersOf g) s′ t′ n) after r → Rendered f before after r
   rendered-found g i {n} e b =
       let (h, d) = found-told g i in
+      let all = ones-all (graphOf f .order) (found-sound g i .header .order-most) in
       record {
         text = reportText (numbersOf g) s′ t′ n;
         prints = record {
@@ -80,8 +101,8 @@ module _ {f s s′ t t′ w w′ : List ℕ} {a : FindingAnswer} (z : Full s t w
             numbers = numbersOf g;
             s = s′;
             t = t′;
-            outcome = d .outcome;
-            equal = d .equal;
+            outcome = d .outcome .former all all;
+            equal = d .equal .former all all;
             counted = let k = d .groups .counted in (ap (λ c. c .edges) k, ap (λ c. c .sources) k, ap (λ c. c .targets) k);
             same = ap (reportText (numbersOf g) s′ t′) e;
           };

@@ -42,15 +42,17 @@ fn numbers_of(ring: Ring) -> Numbers
     }
 }
 
-// Puts what is to be printed for a file at the start of the buffer, and answers its length.
+// Puts what is to be printed for a file at the start of the buffer, and answers its length. The finding is asked for with everyone in both
+// groups.
 fn render(file: &[u8], out: &mut [u8]) -> usize
     requires { ⌜ longestReport ≤ length (now out) ⌝ }
     ensures { λ r. ⌜ Rendered (now (file .entry)) (now (out .entry)) (now (out .exit)) r ⌝ }
 {
+    let everyone = [1u8; MOST_MEMBERS];
     let mut work = [0u16; MOST_WORK];
     let mut s = [0u8; MOST_MEMBERS];
     let mut t = [0u8; MOST_MEMBERS];
-    let answer = cogsplice::finding(file, &mut s, &mut t, &mut work);
+    let answer = cogsplice::finding(file, &everyone, &everyone, &mut s, &mut t, &mut work);
     let FindingAnswer::Found(ring) = answer else {
         return report::put_refusal(refusal_of(answer), out);
     };

@@ -7,6 +7,9 @@ use std::fmt;
 /// Layer 1 is the links between the two groups of the finding. They are taken out, and layer 2 is the links between the two groups of
 /// the finding of what remains; so it goes on until no link remains. Each link has one layer, and `x * y` never rises from a layer to the
 /// next. A network without links has no layers.
+///
+/// Of the layers [`Network::within`](crate::Network::within) A and B all this holds of the links from A to B: every other link is in no
+/// layer.
 #[derive(Clone, Debug, PartialEq, Eq)]
 pub struct Layers {
     pub(crate) count: usize,
@@ -20,7 +23,7 @@ impl Layers {
         self.count
     }
 
-    /// The layer of each link, counted from 1, in the order of the file.
+    /// The layer of each link, counted from 1, in the order of the file; 0 for a link that does not go from A to B.
     ///
     /// ```
     /// let network = cogsplice::Network::from_links(6, &[(0, 1), (0, 2), (3, 5), (4, 5)]).unwrap();
@@ -41,7 +44,8 @@ impl Layers {
     pub fn links(&self, layer: usize) -> impl Iterator<Item = (usize, usize)> + '_ {
         let layered = self.links.iter().zip(&self.of_links);
         layered
-            .filter(move |&(_, &of_link)| usize::from(of_link) == layer)
+            // 0 is no layer: it stands for the links that are in none.
+            .filter(move |&(_, &of_link)| of_link > 0 && usize::from(of_link) == layer)
             .map(|(&link, _)| link)
     }
 

@@ -3,6 +3,9 @@
 //! Every call is safe on slices of any length and content: none has a precondition. `refusal` is 0 where a call was accepted; of a
 //! refused call every other number is 0 but for `link`, and no table has changed. What lies past the entries that a call needs stays
 //! unchanged. Zero bytes count as the file without members and links.
+//!
+//! `a` and `b` are the groups A and B that a call searches inside: one byte for each member, 1 in, 0 out. S lies in A and T in B, and so
+//! does every pair that the call speaks of. With everyone in both the whole network is searched.
 use crate::Side;
 
 /// `n` and `m` of a file.
@@ -106,18 +109,27 @@ extern "C" {
         in_starts: *const u16, in_starts_length: usize, in_rows: *const u16, in_rows_length: usize,
     ) -> u16;
     fn cogsplice_core(
-        file: *const u8, file_length: usize, x: u16, y: u16,
+        file: *const u8, file_length: usize, a: *const u8, a_length: usize, b: *const u8, b_length: usize, x: u16, y: u16,
         s: *mut u8, s_length: usize, t: *mut u8, t_length: usize, work: *mut u16, work_length: usize,
     ) -> TotalsNumbers;
-    fn cogsplice_level(file: *const u8, file_length: usize, x: u16, work: *mut u16, work_length: usize) -> LevelNumbers;
-    fn cogsplice_level_across(file: *const u8, file_length: usize, y: u16, work: *mut u16, work_length: usize) -> LevelNumbers;
-    fn cogsplice_equal_level(file: *const u8, file_length: usize, work: *mut u16, work_length: usize) -> LevelNumbers;
+    fn cogsplice_level(
+        file: *const u8, file_length: usize, a: *const u8, a_length: usize, b: *const u8, b_length: usize, x: u16,
+        work: *mut u16, work_length: usize,
+    ) -> LevelNumbers;
+    fn cogsplice_level_across(
+        file: *const u8, file_length: usize, a: *const u8, a_length: usize, b: *const u8, b_length: usize, y: u16,
+        work: *mut u16, work_length: usize,
+    ) -> LevelNumbers;
+    fn cogsplice_equal_level(
+        file: *const u8, file_length: usize, a: *const u8, a_length: usize, b: *const u8, b_length: usize,
+        work: *mut u16, work_length: usize,
+    ) -> LevelNumbers;
     fn cogsplice_finding(
-        file: *const u8, file_length: usize,
+        file: *const u8, file_length: usize, a: *const u8, a_length: usize, b: *const u8, b_length: usize,
         s: *mut u8, s_length: usize, t: *mut u8, t_length: usize, work: *mut u16, work_length: usize,
     ) -> FindingNumbers;
     fn cogsplice_layers(
-        file: *const u8, file_length: usize,
+        file: *const u8, file_length: usize, a: *const u8, a_length: usize, b: *const u8, b_length: usize,
         layers: *mut u16, layers_length: usize, work: *mut u16, work_length: usize,
     ) -> LayersNumbers;
     fn cogsplice_equal_findings(x: usize, y: usize, a: usize, b: usize) -> bool;
@@ -177,49 +189,70 @@ pub fn row_refusal(side: Side, member: usize, out_starts: &[u16], out_rows: &[u1
     }
 }
 
-/// Writes the `[x,y]`-core.
+/// Writes the `[x,y]`-core inside A and B.
+// The library's own list of arguments.
+#[allow(clippy::too_many_arguments)]
 #[rustfmt::skip]
-pub fn core(file: &[u8], x: u16, y: u16, s: &mut [u8], t: &mut [u8], work: &mut [u16]) -> TotalsNumbers {
+pub fn core(file: &[u8], a: &[u8], b: &[u8], x: u16, y: u16, s: &mut [u8], t: &mut [u8], work: &mut [u16]) -> TotalsNumbers {
     unsafe {
         cogsplice_core(
-            file.as_ptr(), file.len(), x, y,
+            file.as_ptr(), file.len(), a.as_ptr(), a.len(), b.as_ptr(), b.len(), x, y,
             s.as_mut_ptr(), s.len(), t.as_mut_ptr(), t.len(), work.as_mut_ptr(), work.len(),
         )
     }
 }
 
-/// The level of `x`.
-pub fn level(file: &[u8], x: u16, work: &mut [u16]) -> LevelNumbers {
-    unsafe { cogsplice_level(file.as_ptr(), file.len(), x, work.as_mut_ptr(), work.len()) }
-}
-
-/// The level across, for `y`.
-pub fn level_across(file: &[u8], y: u16, work: &mut [u16]) -> LevelNumbers {
-    unsafe { cogsplice_level_across(file.as_ptr(), file.len(), y, work.as_mut_ptr(), work.len()) }
-}
-
-/// The equal level.
-pub fn equal_level(file: &[u8], work: &mut [u16]) -> LevelNumbers {
-    unsafe { cogsplice_equal_level(file.as_ptr(), file.len(), work.as_mut_ptr(), work.len()) }
-}
-
-/// Writes the finding; zeros and empty groups where the file has no link.
+/// The level of `x` inside A and B.
 #[rustfmt::skip]
-pub fn finding(file: &[u8], s: &mut [u8], t: &mut [u8], work: &mut [u16]) -> FindingNumbers {
+pub fn level(file: &[u8], a: &[u8], b: &[u8], x: u16, work: &mut [u16]) -> LevelNumbers {
+    unsafe {
+        cogsplice_level(
+            file.as_ptr(), file.len(), a.as_ptr(), a.len(), b.as_ptr(), b.len(), x,
+            work.as_mut_ptr(), work.len(),
+        )
+    }
+}
+
+/// The level across, for `y`, inside A and B.
+#[rustfmt::skip]
+pub fn level_across(file: &[u8], a: &[u8], b: &[u8], y: u16, work: &mut [u16]) -> LevelNumbers {
+    unsafe {
+        cogsplice_level_across(
+            file.as_ptr(), file.len(), a.as_ptr(), a.len(), b.as_ptr(), b.len(), y,
+            work.as_mut_ptr(), work.len(),
+        )
+    }
+}
+
+/// The equal level inside A and B.
+#[rustfmt::skip]
+pub fn equal_level(file: &[u8], a: &[u8], b: &[u8], work: &mut [u16]) -> LevelNumbers {
+    unsafe {
+        cogsplice_equal_level(
+            file.as_ptr(), file.len(), a.as_ptr(), a.len(), b.as_ptr(), b.len(),
+            work.as_mut_ptr(), work.len(),
+        )
+    }
+}
+
+/// Writes the finding inside A and B; zeros and empty groups where no link goes from A to B.
+#[rustfmt::skip]
+pub fn finding(file: &[u8], a: &[u8], b: &[u8], s: &mut [u8], t: &mut [u8], work: &mut [u16]) -> FindingNumbers {
     unsafe {
         cogsplice_finding(
-            file.as_ptr(), file.len(),
+            file.as_ptr(), file.len(), a.as_ptr(), a.len(), b.as_ptr(), b.len(),
             s.as_mut_ptr(), s.len(), t.as_mut_ptr(), t.len(), work.as_mut_ptr(), work.len(),
         )
     }
 }
 
-/// Writes the layer of each link, counted from 1, in the order of the file; there are none where the file has no link.
+/// Writes the layer of each link, in the order of the file: counted from 1 for the links from A to B, and 0 for every other link. There
+/// are no layers where no link goes from A to B.
 #[rustfmt::skip]
-pub fn layers(file: &[u8], layers: &mut [u16], work: &mut [u16]) -> LayersNumbers {
+pub fn layers(file: &[u8], a: &[u8], b: &[u8], layers: &mut [u16], work: &mut [u16]) -> LayersNumbers {
     unsafe {
         cogsplice_layers(
-            file.as_ptr(), file.len(),
+            file.as_ptr(), file.len(), a.as_ptr(), a.len(), b.as_ptr(), b.len(),
             layers.as_mut_ptr(), layers.len(), work.as_mut_ptr(), work.len(),
         )
     }

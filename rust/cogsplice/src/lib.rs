@@ -1,8 +1,9 @@
 //! Dense rings in a network of members who vouch for members, found by a proved library.
 //!
 //! A [`Network`] holds an accepted network file. Its calls own the tables that the library works on, and answer with groups as
-//! vectors of members, or with a typed [`Refusal`]. That the answers are right is proved in the library itself, which is linked as a
-//! static library; this crate only hands numbers and tables across. [`lent`] has the calls as they are, over tables of the caller's.
+//! vectors of members, or with a typed [`Refusal`]. [`Network::within`] has the same calls among some members only. That the answers are
+//! right is proved in the library itself, which is linked as a static library; this crate only hands numbers and tables across. [`lent`]
+//! has the calls as they are, over tables of the caller's.
 //!
 //! ```
 //! use cogsplice::Network;
@@ -23,10 +24,12 @@ mod layers;
 pub mod lent;
 mod network;
 mod refusal;
+mod within;
 
 pub use layers::Layers;
 pub use network::{Finding, Index, Network, Pair, Totals};
 pub use refusal::Refusal;
+pub use within::Within;
 
 /// A side of a link.
 #[derive(Clone, Copy, Debug, PartialEq, Eq)]

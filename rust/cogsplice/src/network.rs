@@ -1,4 +1,4 @@
-use crate::{file_length, lent, work_length, Layers, Refusal, Side};
+use crate::{file_length, lent, Layers, Refusal, Side, Within};
 use std::fmt;
 
 /// A network file that was accepted.
@@ -29,7 +29,8 @@ pub struct Pair {
 /// the smallest `x`.
 ///
 /// No pair of groups is more than twice as dense. In a quiet month, when the network has no link, all numbers are 0 and both groups are
-/// empty. `==` compares all of a finding, [`Finding::equals`] what makes two findings equal.
+/// empty. Of a finding [`Network::within`] A and B all this holds of the cores and pairs inside them, and of the links from A to B. `==`
+/// compares all of a finding, [`Finding::equals`] what makes two findings equal.
 #[derive(Clone, Debug, PartialEq, Eq)]
 pub struct Finding {
     pub x: usize,
@@ -44,7 +45,7 @@ impl Finding {
         lent::equal_findings(self.x, self.y, other.x, other.y)
     }
 
-    /// Whether the month was quiet: `x * y` is 0 exactly when the network has no link.
+    /// Whether the month was quiet: `x * y` is 0 exactly when there was no link to search, none in the network or none from A to B.
     pub fn is_quiet(&self) -> bool {
         self.x * self.y == 0
     }
@@ -239,14 +240,7 @@ impl Network {
     /// assert!(star.core(1, 2).s.is_empty());
     /// ```
     pub fn core(&self, x: u16, y: u16) -> Pair {
-        let (mut s, mut t, mut work) = self.tables();
-        let numbers = lent::core(&self.file, x, y, &mut s, &mut t, &mut work);
-        accepted(numbers.refusal);
-        Pair {
-            s: members_of(&s),
-            t: members_of(&t),
-            edges: numbers.edges,
-        }
+        self.everyone().core(x, y)
     }
 
     /// The level of `x`: the largest `y` of at least 1 with a non-empty `[x,y]`-core, or 0. Refused by 12 where `x` is 0.
@@ -258,7 +252,7 @@ impl Network {
     /// assert_eq!(star.level(0), Err(cogsplice::Refusal::Zero));
     /// ```
     pub fn level(&self, x: u16) -> Result<usize, Refusal> {
-        level_of(lent::level(&self.file, x, &mut self.work()))
+        self.everyone().level(x)
     }
 
     /// The level across, for `y`: the largest `x` of at least 1 with a non-empty `[x,y]`-core, or 0. Refused by 12 where `y` is 0.
@@ -268,7 +262,7 @@ impl Network {
     /// assert_eq!(star.level_across(1), Ok(2));
     /// ```
     pub fn level_across(&self, y: u16) -> Result<usize, Refusal> {
-        level_of(lent::level_across(&self.file, y, &mut self.work()))
+        self.everyone().level_across(y)
     }
 
     /// The equal level: the largest `k` with a non-empty `[k,k]`-core, or 0.
@@ -278,9 +272,7 @@ impl Network {
     /// assert_eq!(star.equal_level(), 1);
     /// ```
     pub fn equal_level(&self) -> usize {
-        let numbers = lent::equal_level(&self.file, &mut self.work());
-        accepted(numbers.refusal);
-        numbers.level
+        self.everyone().equal_level()
     }
 
     /// The finding; zeros and empty groups where the network has no link.
@@ -298,19 +290,7 @@ impl Network {
     /// assert!(Network::from_links(4, &[]).unwrap().finding().is_quiet());
     /// ```
     pub fn finding(&self) -> Finding {
-        let (mut s, mut t, mut work) = self.tables();
-        let numbers = lent::finding(&self.file, &mut s, &mut t, &mut work);
-        accepted(numbers.refusal);
-        Finding {
-            x: numbers.x,
-            y: numbers.y,
-            equal_level: numbers.equal,
-            pair: Pair {
-                s: members_of(&s),
-                t: members_of(&t),
-                edges: numbers.edges,
-            },
-        }
+        self.everyone().finding()
     }
 
     /// The layers; none where the network has no link.
@@ -322,22 +302,32 @@ impl Network {
     /// assert_eq!(Network::from_links(4, &[]).unwrap().layers().count(), 0);
     /// ```
     pub fn layers(&self) -> Layers {
-        let mut of_links = vec![0; self.links];
-        let numbers = lent::layers(&self.file, &mut of_links, &mut self.work());
-        accepted(numbers.refusal);
-        Layers {
-            count: numbers.layers,
-            links: self.links().collect(),
-            of_links,
-        }
+        self.everyone().layers()
     }
 
-    fn work(&self) -> Vec<u16> {
-        vec![0; work_length(self.members, self.links)]
+    /// The same calls among some members only: S lies in A and T in B, two groups given by their members in any order. Refused by 10 where
+    /// a member is not below n.
+    ///
+    /// ```
+    /// use cogsplice::{Network, Refusal};
+    /// # fn main() -> Result<(), Refusal> {
+    /// let network = Network::from_links(6, &[(0, 3), (0, 4), (1, 3), (1, 4), (2, 3), (2, 4), (4, 5), (5, 5)])?;
+    /// assert_eq!(network.finding().pair.s, [0, 1, 2]);
+    /// let finding = network.within(&[0, 1, 4], &[3, 4, 5])?.finding();
+    /// assert_eq!((finding.x, finding.y), (2, 2));
+    /// assert_eq!((finding.pair.s, finding.pair.t), (vec![0, 1], vec![3, 4]));
+    /// assert!(network.within(&[0, 1], &[5])?.finding().is_quiet());
+    /// assert_eq!(network.within(&[6], &[]).unwrap_err(), Refusal::Member);
+    /// # Ok(())
+    /// # }
+    /// ```
+    pub fn within(&self, a: &[usize], b: &[usize]) -> Result<Within<'_>, Refusal> {
+        Ok(Within::new(self, self.group(a)?, self.group(b)?))
     }
 
-    fn tables(&self) -> (Vec<u8>, Vec<u8>, Vec<u16>) {
-        (vec![0; self.members], vec![0; self.members], self.work())
+    /// With everyone in both groups the whole network is searched.
+    fn everyone(&self) -> Within<'_> {
+        Within::new(self, vec![1; self.members], vec![1; self.members])
     }
 
     fn group(&self, members: &[usize]) -> Result<Vec<u8>, Refusal> {
@@ -354,16 +344,8 @@ fn number(value: usize) -> [u8; 2] {
     u16::try_from(value).unwrap_or(u16::MAX).to_le_bytes()
 }
 
-/// A network was accepted when it was made, and its tables are as long as the calls need, so that no call on it alone is refused.
-fn accepted(refusal: u16) {
+/// A network was accepted when it was made, its tables are as long as the calls need, and its groups hold 0 and 1 alone, so that no call is
+/// refused but for a number that it is given.
+pub(crate) fn accepted(refusal: u16) {
     assert_eq!(refusal, 0, "an accepted network was refused");
-}
-
-fn level_of(numbers: lent::LevelNumbers) -> Result<usize, Refusal> {
-    Refusal::of(numbers.refusal, numbers.link)?;
-    Ok(numbers.level)
-}
-
-fn members_of(group: &[u8]) -> Vec<usize> {
-    (0..group.len()).filter(|&member| group[member] == 1).collect()
 }

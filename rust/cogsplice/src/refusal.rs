@@ -33,7 +33,7 @@ pub enum Refusal {
     Table,
     /// 10: the member of a row, or of a group, is not below n.
     Member,
-    /// 11: a byte among the first n of a group is neither 0 nor 1.
+    /// 11: a byte among the first n of a group that a call is lent to read, S or T of the count, A or B, is neither 0 nor 1.
     Group,
     /// 12: a level was asked for 0.
     Zero,

@@ -9,8 +9,10 @@ pub const INPUT: usize = 32_778;
 /// What `vouch-report` prints for an input.
 pub fn report(input: &[u8]) -> String {
     let file = &input[..input.len().min(INPUT)];
+    let everyone = [1; MEMBERS];
     let (mut s, mut t) = (vec![0; MEMBERS], vec![0; MEMBERS]);
-    let found = finding(file, &mut s, &mut t, work_length(MEMBERS, LINKS));
+    let work = work_length(MEMBERS, LINKS);
+    let found = finding(file, [&everyone, &everyone], &mut s, &mut t, work);
     match found.refusal {
         0 => format!(
             "x {} y {} equal {}\nlinks {} vouchers {} vouched {}\nS{}\nT{}\n",

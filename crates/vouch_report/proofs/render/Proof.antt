@@ -15,6 +15,12 @@ slice-aggregate-finding-2 c = search needs
 slice-aggregate-finding-3 : tie.Need-slice-aggregate-finding-3
 slice-aggregate-finding-3 c = search needs
 
+slice-aggregate-finding-4 : tie.Need-slice-aggregate-finding-4
+slice-aggregate-finding-4 c = search needs
+
+slice-aggregate-finding-5 : tie.Need-slice-aggregate-finding-5
+slice-aggregate-finding-5 c = search needs
+
 finding-requires : tie.Need-finding-requires
 finding-requires c κs = search needs
 
@@ -71,6 +77,8 @@ render-spec =
     slice-aggregate-finding
     slice-aggregate-finding-2
     slice-aggregate-finding-3
+    slice-aggregate-finding-4
+    slice-aggregate-finding-5
     finding-requires
     enum-known-answer
     enum-told

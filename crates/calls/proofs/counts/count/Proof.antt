@@ -1,5 +1,7 @@
 -- `count` refuses by the file, then a short table, then a byte that is neither 0 nor 1; else it counts.
-use Prim.Native.Nat.{_≤_}
+use Prim.Native.Nat.{ℕ, _≤_}
+use mathlib.Core.Bool.{Bool, _&&_}
+use mathlib.Core.List.{List}
 use mathlib.Core.Path.{_≡_, refl, sym, ap, _∙_}
 use native.Mathlib.Omega.{arith}
 use borrow.Author.Tests.{not-true, not-false}
@@ -11,7 +13,7 @@ use Rattle.network.specs.Accepted.{Sound}
 use Rattle.network.specs.Calls as call
 use Rattle.network.proofs.Accepted.{found-none, found-accepted}
 use Rattle.network.proofs.Answers.{call-refused, call-plain}
-use Rattle.calls.proofs.Counted.{count-file, count-short, count-short-other, count-byte, count-byte-other, count-none}
+use Rattle.calls.proofs.Counted.{count-file, count-short, count-short-other, count-byte, count-none}
 use borrow.Author.Needs.{needs}
 use Rattle.calls.proofs.counts.count.Statement.{statement}
 use Rattle.calls.proofs.counts.count.Tie as tie
@@ -65,8 +67,12 @@ long c = omega (arith, c .before .order-of .ensures, c .if2 .left)
 long-other : (c : tie.Else3) → graphOf (start (c .before .before .before) .args .file .now) .order ≤ length (start (c .before .before .before) .args .t .now)
 long-other c = omega (arith, c .before .before .order-of .ensures, c .if3 .left)
 
-is-group-requires : tie.Need-is-group-requires
-is-group-requires c κs = search needs
+are-groups-requires : tie.Need-are-groups-requires
+are-groups-requires c κs = search needs
+
+-- what is told of the first n bytes is so of the file's n
+groups-as : (s t : List ℕ) {n k : ℕ} {r v : Bool} → n ≡ k → r ≡ (isGroup n s && isGroup n t) → r ≡ v → (isGroup k s && isGroup k t) ≡ v
+groups-as s t n e i = ap (λ n. isGroup n s && isGroup n t) (sym n) ∙ sym e ∙ i
 
 plain-requires-3 : tie.Need-plain-requires-3
 plain-requires-3 c κs = search needs
@@ -76,26 +82,12 @@ returns-4 c =
     let t = c .before in
     let d = t .before .before in
     let b = d .before .before .before in
-    call-plain 11 (omega arith) (c .plain3 .ensures) (count-byte _ _ _ (gives-none b) (long (d .before)) (long-other d)
-    (ap (λ n. isGroup n (start b .args .s .now)) (sym (d .before .before .order-of .ensures .0)) ∙ sym (t .before .is-group .ensures) ∙ not-true _ (t .if4 .taken)))
-
-is-group-requires-2 : tie.Need-is-group-requires-2
-is-group-requires-2 c κs = search needs
-
-plain-requires-4 : tie.Need-plain-requires-4
-plain-requires-4 c κs = search needs
-
-returns-5 : tie.Need-returns-5
-returns-5 c =
-    let t = c .before in
-    let d = t .before .before .before .before in
-    let b = d .before .before .before in
-    call-plain 11 (omega arith) (c .plain4 .ensures) (count-byte-other _ (start b .args .s .now) _ (gives-none b) (long (d .before)) (long-other d)
-    (ap (λ n. isGroup n (start b .args .t .now)) (sym (d .before .before .order-of .ensures .0)) ∙ sym (t .before .is-group2 .ensures) ∙ not-true _ (t .if5 .taken)))
+    call-plain 11 (omega arith) (c .plain3 .ensures)
+    (count-byte _ _ _ (gives-none b) (long (d .before)) (long-other d) (groups-as (start b .args .s .now) (start b .args .t .now) (d .before .before .order-of .ensures .0) (t .before .are-groups .ensures) (not-true _ (t .if4 .taken))))
 
 edges-between-requires : tie.Need-edges-between-requires
 edges-between-requires c κs =
-    let d = c .before .before .before .before in
+    let d = c .before .before in
     (sound (d .before .before .before), (long (d .before), long-other d))
 
 group-size-requires : tie.Need-group-size-requires
@@ -104,17 +96,13 @@ group-size-requires c κs = search needs
 group-size-requires-2 : tie.Need-group-size-requires-2
 group-size-requires-2 c κs = search needs
 
-returns-6 : tie.Need-returns-6
-returns-6 c =
+returns-5 : tie.Need-returns-5
+returns-5 c =
     let f = c .before .before .before in
-    let d = f .before .before .before .before in
+    let d = f .before .before in
     let b = d .before .before .before in
     let n = d .before .before .order-of .ensures .0 in
-    call.accepted _
-    (count-none _ _ _ (gives-none b) (long (d .before)) (long-other d)
-    (ap (λ n. isGroup n (start b .args .s .now)) (sym n) ∙ sym (f .before .before .before .is-group .ensures) ∙ not-false _ (f .before .before .if4 .left))
-    (ap (λ n. isGroup n (start b .args .t .now)) (sym n) ∙ sym (f .before .is-group2 .ensures) ∙ not-false _ (f .if5 .left)))
-    refl
+    call.accepted _ (count-none _ _ _ (gives-none b) (long (d .before)) (long-other d) (groups-as (start b .args .s .now) (start b .args .t .now) n (f .before .are-groups .ensures) (not-false _ (f .if4 .left)))) refl
     (rw (
       c .before .before .edges-between .ensures,
       c .before .group-size .ensures ∙ ap (sum (λ u. if (groupOf (start b .args .s .now) u) 1)) n,
@@ -132,13 +120,10 @@ count-spec =
     returns-2
     plain-requires-2
     returns-3
-    is-group-requires
+    are-groups-requires
     plain-requires-3
     returns-4
-    is-group-requires-2
-    plain-requires-4
-    returns-5
     edges-between-requires
     group-size-requires
     group-size-requires-2
-    returns-6)
+    returns-5)

@@ -1,6 +1,5 @@
 -- `equal_level` has nothing fixed.
-use lib.ListN.{length}
-use Rattle.cores.proofs.WayIn.{equal-entry}
+use Rattle.cores.proofs.Told.{equal-level-told}
 use borrow.Author.Needs.{needs}
 use Rattle.cores.proofs.asks.equal_level.Statement.{statement}
 use Rattle.cores.proofs.asks.equal_level.Tie as tie
@@ -12,7 +11,9 @@ same-length : tie.Need-same-length
 same-length c = search needs
 
 returns : tie.Need-returns
-returns c = let a = c .before .before .before .before .before .before .args in rw (equal-entry (a .file .now) (length (a .work .now))) at (c .before .before .level-along .ensures)
+returns c =
+    let a = c .before .before .before .before .before .before .before .before .args in
+    equal-level-told (a .file .now) (a .a .now) (a .b .now) (a .work .now) _ (c .before .before .level-along .ensures)
 
 pub equal-level-spec : {M : Type 1} → statement M
 equal-level-spec = tie.close (tie.spec level-along-requires same-length returns)

@@ -1,6 +1,5 @@
 -- `level` has x fixed and not 0.
-use lib.ListN.{length}
-use Rattle.cores.proofs.WayIn.{level-entry}
+use Rattle.cores.proofs.Told.{level-told}
 use borrow.Author.Needs.{needs}
 use Rattle.cores.proofs.asks.level.Statement.{statement}
 use Rattle.cores.proofs.asks.level.Tie as tie
@@ -15,7 +14,9 @@ same-length : tie.Need-same-length
 same-length c = search needs
 
 returns : tie.Need-returns
-returns c = let a = c .before .before .before .before .before .before .before .args in rw (level-entry (a .file .now) (a .x) (length (a .work .now)), c .before .before .before .before .wide16 .ensures .0) at (c .before .before .level-along .ensures)
+returns c =
+    let a = c .before .before .before .before .before .before .before .before .before .args in
+    level-told (a .file .now) (a .a .now) (a .b .now) (a .work .now) _ (a .x) (rw (c .before .before .before .before .wide16 .ensures .0) at (c .before .before .level-along .ensures))
 
 pub level-spec : {M : Type 1} → statement M
 level-spec = tie.close (tie.spec wide16-requires level-along-requires same-length returns)

@@ -22,7 +22,7 @@ enum-known-entry-2 c = search needs
 climb-requires : tie.Need-climb-requires
 climb-requires c κs =
     let b = c .before in
-    let r = entry-ready _ _ _ _ _ _ (b .before .before .before .before .before .enter .ensures) _ _ (b .before .entry2 .given .1) .1 in
+    let r = entry-ready _ _ _ _ _ _ _ _ (b .before .before .before .before .before .enter .ensures) _ _ (b .before .entry2 .given .1) .1 in
     (entered-held r .0, (entered-held r .1, omega arith))
 
 same-length : tie.Need-same-length
@@ -30,7 +30,7 @@ same-length c = search needs
 
 returns : tie.Need-returns
 returns c =
-    let (e, n, k) = entry-refused _ _ _ _ _ _ (c .before .before .before .before .before .enter .ensures) _ (c .before .entry .given .1) in
+    let (e, n, k) = entry-refused _ _ _ _ _ _ _ _ (c .before .before .before .before .before .enter .ensures) _ (c .before .entry .given .1) in
     call-kept e n (ap (λ w. w ∷ []) k)
 
 same-length-2 : tie.Need-same-length-2
@@ -39,7 +39,7 @@ same-length-2 c = search needs
 returns-2 : tie.Need-returns-2
 returns-2 c =
     let b = c .before .before .before .before in
-    let (e, r) = entry-ready _ _ _ _ _ _ (b .before .before .before .before .before .enter .ensures) _ _ (b .before .entry2 .given .1) in
+    let (e, r) = entry-ready _ _ _ _ _ _ _ _ (b .before .before .before .before .before .enter .ensures) _ _ (b .before .entry2 .given .1) in
     let i = c .before .before .climb .ensures in
     call.accepted _ e refl (climbed-level _ _ 1 i (λ h. h) (r .tabled), entered-kept r (i .kept))
 

@@ -1,15 +1,14 @@
 -- `layers` is refused, or makes the layers in the entries of both tables that are needed.
-use Prim.Native.Nat.{_-_, _≤_}
+use Prim.Native.Nat.{_-_}
 use mathlib.Core.Path.{_≡_, refl, _∙_}
 use native.Mathlib.Omega.{arith}
 use lib.ListN.{length}
 use lib.Seq.{length-take-le}
 use Rattle.network.specs.File.{graphOf, none}
 use Rattle.network.specs.Refusals.{workLength, layersRefusal}
-use Rattle.network.specs.Accepted.{Accepted}
 use Rattle.network.specs.Calls as call
 use Rattle.network.proofs.Answers.{call-refused}
-use Rattle.layering.proofs.LayersCalls.{layers-found, layers-accepted, layers-told}
+use Rattle.layering.proofs.LayersCalls.{Enough, layers-found, layers-enough, layers-told}
 use borrow.Author.Needs.{needs}
 use Rattle.layering.proofs.asks.layers.Statement.{statement}
 use Rattle.layering.proofs.asks.layers.Tie as tie
@@ -22,18 +21,15 @@ returns c = call-refused (c .before .before .layers-refusal .ensures) (c .if1 .t
 
 -- the function's entry
 abbrev start : tie.Else1 → tie.Start
-start c = c .before .before .before .before .before .before
+start c = c .before .before .before .before .before .before .before .before
 
 -- there is no refusal,
-gives-none : (c : tie.Else1) → let a = start c .args in layersRefusal (a .file .now) (length (a .layers .now)) (length (a .work .now)) ≡ none
-gives-none c = layers-found _ _ _ (c .before .before .layers-refusal .ensures) (c .if1 .left)
+gives-none : (c : tie.Else1) → let a = start c .args in layersRefusal (a .file .now) (a .a .now) (a .b .now) (length (a .layers .now)) (length (a .work .now)) ≡ none
+gives-none c = layers-found _ _ _ _ _ (c .before .before .layers-refusal .ensures) (c .if1 .left)
 
--- so the file is accepted and both tables are long enough
-entered : (c : tie.Else1)
-    → let a = start c .args in
-    let g = graphOf (a .file .now) in
-    Accepted (a .file .now) × (g .size ≤ length (a .layers .now)) × (workLength (g .order) (g .size) ≤ length (a .work .now))
-entered c = layers-accepted _ _ _ (gives-none c)
+-- so the file is accepted and all tables are long enough
+enough : (c : tie.Else1) → let a = start c .args in Enough (a .file .now) (a .a .now) (a .b .now) (length (a .layers .now)) (length (a .work .now))
+enough c = layers-enough _ _ _ _ _ (gives-none c)
 
 size-of-requires : tie.Need-size-of-requires
 size-of-requires c κs = search needs
@@ -59,7 +55,7 @@ needed c =
     (m, c .work-length .ensures ∙ rw (c .before .order-of .ensures .0, m))
 
 part-layer-links-end : tie.Need-part-layer-links-end
-part-layer-links-end c = omega (arith, needed c .0, entered (c .before .before .before) .1)
+part-layer-links-end c = omega (arith, needed c .0, enough (c .before .before .before) .layers)
 
 sub-layer-links-2 : tie.Need-sub-layer-links-2
 sub-layer-links-2 c = search needs
@@ -68,20 +64,17 @@ part-layer-links-start-2 : tie.Need-part-layer-links-start-2
 part-layer-links-start-2 c = search needs
 
 part-layer-links-end-2 : tie.Need-part-layer-links-end-2
-part-layer-links-end-2 c = omega (arith, needed (c .before) .1, entered (c .before .before .before .before) .2)
+part-layer-links-end-2 c = omega (arith, needed (c .before) .1, enough (c .before .before .before .before) .work)
 
 layer-links-requires : tie.Need-layer-links-requires
 layer-links-requires c κs =
     let w = c .before .before in
-    let (a, p, q) = entered (w .before .before .before) in
+    let a = enough (w .before .before .before) in
     let (m, k) = needed w in
-    let b = start (w .before .before .before) .args in (
-      a,
-      (
-        length-take-le (w .before .before .size-of .result - 0) (b .layers .now) (omega (arith, m)) ∙ omega (arith, m),
-        omega (arith, k, length-take-le (w .work-length .result - 0) (b .work .now) (omega (arith, k))),
-      ),
-    )
+    let b = start (w .before .before .before) .args in
+    let layers = length-take-le (w .before .before .size-of .result - 0) (b .layers .now) (omega (arith, m, a .layers)) in
+    let work = length-take-le (w .work-length .result - 0) (b .work .now) (omega (arith, k, a .work)) in
+    (a .accepted, ((a .a-long, a .b-long), (layers ∙ omega (arith, m), omega (arith, k, work))))
 
 same-length : tie.Need-same-length
 same-length c = search needs
@@ -93,16 +86,16 @@ returns-2 : tie.Need-returns-2
 returns-2 c =
     let w = c .before .before .before .before .before .before .before in
     let e = w .before .before .before in
-    let (a, p, q) = entered e in
+    let a = enough e in
     let (m, k) = needed w in
     let b = start e .args in
     let n = w .before .before .size-of .result - 0 in
     let j = w .work-length .result - 0 in
     let r = c .before .before .before .before .layer-links in
     call.accepted (r .result) (gives-none e) refl
-    (layers-told (b .file .now) (b .layers .now) (r .last .1 .0) (b .work .now) (r .last .1 .1 .0) {n = n} {k = j} (a .sound .closed) (omega (arith, m)) (omega (arith, k)) (omega (arith, m), omega (arith, k)) (
-      r .ensures .1 .0 ∙ length-take-le n (b .layers .now) (omega (arith, m)),
-      r .ensures .1 .1 ∙ length-take-le j (b .work .now) (omega (arith, k)),
+    (layers-told (b .file .now) (b .a .now) (b .b .now) (b .layers .now) (r .last .1 .1 .1 .0) (b .work .now) (r .last .1 .1 .1 .1 .0) {n = n} {k = j} (a .accepted .sound .closed) (omega (arith, m)) (omega (arith, k)) (omega (arith, m, a .layers), omega (arith, k, a .work)) (
+      r .ensures .1 .0 ∙ length-take-le n (b .layers .now) (omega (arith, m, a .layers)),
+      r .ensures .1 .1 ∙ length-take-le j (b .work .now) (omega (arith, k, a .work)),
     ) (r .ensures .0))
 
 pub layers-spec : {M : Type 1} → statement M

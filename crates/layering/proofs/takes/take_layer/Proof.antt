@@ -1,15 +1,13 @@
 -- `take_layer` fills the work table from the list, finds, writes the layer to the edges of the list between the two groups, and sifts the list.
-use Prim.Native.Nat.{ℕ, _<_, _≤_}
-use mathlib.Core.Path.{_≡_, refl, sym, subst, _∙_}
+use mathlib.Core.Path.{sym, subst, _∙_}
 use native.Mathlib.Omega.{arith}
 use lib.ListN.{length}
-use Rattle.graph.proofs.Layered.{layered-size}
 use Rattle.graph.proofs.Quiet.{outcome-finding}
 use Rattle.network.specs.File.{graphOf}
 use Rattle.network.proofs.Groups.{group-long}
 use Rattle.peeling.specs.Peeling.{Tabled}
 use Rattle.filling.specs.Listed.{only}
-use Rattle.layering.proofs.Takings.{unlayered-some, taken-layered, sifted-unlayered}
+use Rattle.layering.proofs.Takings.{lists-some, taken-making}
 use borrow.Author.Needs.{needs}
 use Rattle.layering.proofs.takes.take_layer.Statement.{statement}
 use Rattle.layering.proofs.takes.take_layer.Tie as tie
@@ -17,7 +15,7 @@ use Rattle.layering.proofs.takes.take_layer.Tie as tie
 fill-requires : tie.Need-fill-requires
 fill-requires c κs =
     let s = c .before .before .before .before .before .before in
-    (s .pre .0, ((s .pre .1 .1 .0 .below, omega (arith, s .pre .1 .1 .1 .0 .1, s .pre .0 .sound .header)), omega (arith, s .pre .1 .1 .1)))
+    (s .pre .0 .0, ((s .pre .1 .0 .0, omega (arith, s .pre .1 .0 .2, s .pre .0 .0 .sound .header)), omega (arith, s .pre .1 .0 .2, s .pre .1 .1)))
 
 order-of-requires : tie.Need-order-of-requires
 order-of-requires c κs = search needs
@@ -44,8 +42,8 @@ find-in-requires : tie.Need-find-in-requires
 find-in-requires c κs =
     let o = c .before .before in
     let p = start o .pre in
-    let h = p .0 .sound .header in (
-      record { order = omega (arith, o .order-of .ensures, h); size = omega (arith, p .1 .1 .1 .0, h) },
+    let h = p .0 .0 .sound .header in (
+      record { order = omega (arith, o .order-of .ensures, h); size = omega (arith, p .1 .0 .2, h) },
       (record { graph = _; tabled = tabled o }, (omega (arith, o .order-of .ensures, h), omega (arith, o .order-of .ensures, h))),
     )
 
@@ -59,15 +57,11 @@ slice-aggregate-take-edges-2 c = search needs
 abbrev read : tie.After-find-in → tie.After-order-of
 read c = c .before .before .before
 
--- there are no more layers yet than a file has edges
-few : (s : tie.Start) → s .args .made ≤ 8192
-few s = omega (arith, layered-size (s .pre .0 .sound .closed) (s .pre .1 .0), s .pre .0 .sound .header)
-
 add-take-edges : tie.Need-add-take-edges
-add-take-edges c = omega (arith, few (start (read (c .before .before .before .before .before .before .before))))
+add-take-edges c = omega (arith, start (read (c .before .before .before .before .before .before .before)) .pre .0 .1)
 
 cast-take-edges : tie.Need-cast-take-edges
-cast-take-edges c = omega (arith, few (start (read (c .before .before .before .before .before .before .before))))
+cast-take-edges c = omega (arith, start (read (c .before .before .before .before .before .before .before)) .pre .0 .1)
 
 take-edges-requires : tie.Need-take-edges-requires
 take-edges-requires c κs =
@@ -75,13 +69,13 @@ take-edges-requires c κs =
     let i = d .find-in .ensures in
     let o = read d .order-of .ensures in
     let s = start (read d) in
-    ((s .pre .0 .sound, s .pre .1 .1 .0 .below), ((omega (arith, o, group-long _ _ (i .sources)), omega (arith, o, group-long _ _ (i .targets))), s .pre .1 .1 .1 .1 .0))
+    ((s .pre .0 .0 .sound, s .pre .1 .0 .0), ((omega (arith, o, group-long _ _ (i .sources)), omega (arith, o, group-long _ _ (i .targets))), s .pre .1 .1 .0))
 
 sift-requires : tie.Need-sift-requires
 sift-requires c κs =
     let a = c .before .before .before .before in
     let s = start (read (a .before .before .before .before .before .before .before .before .before)) in
-    λ i h. omega (arith, s .pre .1 .1 .0 .below i h, a .take-edges .ensures .same-length, s .pre .1 .1 .1 .1 .0)
+    λ i h. omega (arith, s .pre .1 .0 .0 i h, a .take-edges .ensures .same-length, s .pre .1 .1 .0)
 
 same-length : tie.Need-same-length
 same-length c = search needs
@@ -101,15 +95,10 @@ returns c =
     let i = d .find-in .ensures in
     let t = a .take-edges .ensures in
     let v = c .before .before .sift .ensures in
-    let g = graphOf (s .args .file .now) in
-    let u = s .pre .1 .1 .0 in
-    let k = s .pre .0 .sound .closed in
-    let one : (e : ℕ) → e < g .size → g .weight e ≡ 1 = λ e h. refl in
-    let some = unlayered-some k one (s .args .layers .now) u (s .pre .1 .1 .1 .0 .0) in (
+    let some = lists-some (graphOf (s .args .file .now)) (s .args .edges .now) (s .pre .1 .0 .0) (s .pre .1 .0 .1) in (
       record {
-        layered = taken-layered k one (s .args .layers .now) u (s .args .made) t (omega arith) (s .pre .1 .0) (outcome-finding (i .outcome _ (tabled o)) some);
+        made = λ p m. taken-making (s .pre .0 .0 .sound .closed) p (s .args .layers .now) m t (omega arith) (outcome-finding (i .outcome _ (tabled o)) some) v;
         few = v .few;
-        unlayered = sifted-unlayered k one (s .args .layers .now) u (s .args .made) t (omega arith) v;
         layers-length = t .same-length;
         list-length = v .same-length;
       },

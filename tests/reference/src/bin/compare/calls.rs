@@ -1,9 +1,10 @@
 //! Each call on a case's file, by the reference and by the library, with tables of many lengths.
 use crate::case::Case;
 use crate::indexes::try_indexes;
+use crate::inside::{everyone, lend, lent_groups, tries_inside};
 use crate::table::{lengths_to_try, Table};
 use cogsplice::lent;
-use networks::{root, Draw, Network};
+use networks::{root, Network};
 use reference::{file_length, work_length};
 use std::fmt::Debug;
 
@@ -56,8 +57,9 @@ fn pairs_to_try(case: &mut Case) -> Vec<(u16, u16)> {
         pairs.push((x, y));
     }
     let (n, m) = (network.n, network.links.len());
+    let [a, b] = everyone(n);
     let (mut s, mut t, mut work) = (vec![0; n], vec![0; n], vec![0; work_length(n, m)]);
-    let found = lent::finding(&case.file, &mut s, &mut t, &mut work);
+    let found = lent::finding(&case.file, &a, &b, &mut s, &mut t, &mut work);
     let (x, y) = (found.x as u16, found.y as u16);
     pairs.extend([(x, y), (x + 1, y), (x, y + 1), (x, 0), (0, y)]);
     pairs
@@ -83,27 +85,11 @@ pub fn try_check(case: &mut Case) {
     case.compare(|| "check".into(), expected, given);
 }
 
-/// A table for a group of n members: bytes past them are random; a faulty one has a byte that is neither 0 nor 1.
-fn group(draw: &mut Draw, length: usize, n: usize, faulty: bool) -> Vec<u8> {
-    let mut table = draw.bytes(length);
-    let one_in = draw.among(1, 3);
-    let used = length.min(n);
-    for byte in &mut table[..used] {
-        *byte = draw.one_in(one_in) as u8;
-    }
-    if faulty && used > 0 {
-        let random = draw.among(2, 255) as u8;
-        table[draw.below(used)] = draw.pick(&[2, 3, 128, 255, random]);
-    }
-    table
-}
-
 fn try_counts(case: &mut Case) {
     let n = case.claimed().0;
-    for (faulty_s, faulty_t) in [(false, false), (false, false), (true, false), (false, true)] {
+    for faulty in [[false, false], [false, false], [true, false], [false, true]] {
         for lengths in lengths_to_try(&mut case.draw, [n, n]) {
-            let s = group(&mut case.draw, lengths[0], n, faulty_s);
-            let t = group(&mut case.draw, lengths[1], n, faulty_t);
+            let [s, t] = lent_groups(&mut case.draw, n, lengths, faulty);
             let expected = reference::count(&case.file, &s, &t);
             let given = lent::count(&case.file, &s, &t);
             case.seen(expected.refusal);
@@ -153,8 +139,8 @@ fn try_core(case: &mut Case, x: u16, y: u16) {
     try_groups(
         case,
         &format!("core {x} {y}"),
-        |file, s, t, work| reference::core(file, x, y, s, t, work),
-        |file, s, t, work| lent::core(file, x, y, s, t, work),
+        |file, groups, s, t, work| reference::core(file, groups, x, y, s, t, work),
+        |file, [a, b], s, t, work| lent::core(file, a, b, x, y, s, t, work),
         |answer| answer.refusal,
     );
 }
@@ -164,7 +150,7 @@ fn try_finding(case: &mut Case) {
         case,
         "finding",
         reference::finding,
-        lent::finding,
+        |file, [a, b], s, t, work| lent::finding(file, a, b, s, t, work),
         |answer| answer.refusal,
     );
 }
@@ -179,30 +165,38 @@ fn clear_work(case: &Case, refusal: u16, tables: [&mut Table<u16>; 2]) {
     }
 }
 
-/// A call that writes two groups and is lent a work table.
+/// A call that searches inside A and B, writes two groups and is lent a work table.
 fn try_groups<A: PartialEq + Debug>(
     case: &mut Case,
     call: &str,
-    reference: impl Fn(&[u8], &mut [u8], &mut [u8], usize) -> A,
-    library: impl Fn(&[u8], &mut [u8], &mut [u8], &mut [u16]) -> A,
+    reference: impl Fn(&[u8], [&[u8]; 2], &mut [u8], &mut [u8], usize) -> A,
+    library: impl Fn(&[u8], [&[u8]; 2], &mut [u8], &mut [u8], &mut [u16]) -> A,
     refusal: impl Fn(&A) -> u16,
 ) {
     let (n, m) = case.claimed();
-    for lengths in lengths_to_try(&mut case.draw, [n, n, work_length(n, m)]) {
-        let mut s = Table::bytes(&mut case.draw, lengths[0]);
-        let mut t = Table::bytes(&mut case.draw, lengths[1]);
-        let mut work = Table::words(&mut case.draw, lengths[2]);
+    let needed = [n, n, n, n, work_length(n, m)];
+    for (groups, lengths) in tries_inside(&mut case.draw, n, needed) {
+        let [.., s_length, t_length, work_length] = lengths;
+        let mut s = Table::bytes(&mut case.draw, s_length);
+        let mut t = Table::bytes(&mut case.draw, t_length);
+        let mut work = Table::words(&mut case.draw, work_length);
         let (mut library_s, mut library_t) = (s.clone(), t.clone());
+        let library_groups = groups.clone();
         let mut library_work = work.clone();
-        let expected = reference(&case.file, s.lend(), t.lend(), lengths[2]);
-        let (lent_s, lent_t) = (library_s.lend(), library_t.lend());
-        let given = library(&case.file, lent_s, lent_t, library_work.lend());
+        let expected = reference(&case.file, lend(&groups), s.lend(), t.lend(), work_length);
+        let given = library(
+            &case.file,
+            lend(&library_groups),
+            library_s.lend(),
+            library_t.lend(),
+            library_work.lend(),
+        );
         clear_work(case, refusal(&expected), [&mut work, &mut library_work]);
         case.seen(refusal(&expected));
         case.compare(
             || format!("{call}, lengths {lengths:?}"),
-            (expected, s, t, work),
-            (given, library_s, library_t, library_work),
+            (expected, groups, s, t, work),
+            (given, library_groups, library_s, library_t, library_work),
         );
     }
 }
@@ -212,14 +206,14 @@ fn try_levels(case: &mut Case, asked: u16) {
     try_level(
         case,
         &format!("level {asked}"),
-        |file, work| reference::level(file, asked, work),
-        |file, work| lent::level(file, asked, work),
+        |file, groups, work| reference::level(file, groups, asked, work),
+        |file, [a, b], work| lent::level(file, a, b, asked, work),
     );
     try_level(
         case,
         &format!("level_across {asked}"),
-        |file, work| reference::level_across(file, asked, work),
-        |file, work| lent::level_across(file, asked, work),
+        |file, groups, work| reference::level_across(file, groups, asked, work),
+        |file, [a, b], work| lent::level_across(file, a, b, asked, work),
     );
 }
 
@@ -228,7 +222,7 @@ fn try_equal_level(case: &mut Case) {
         case,
         "equal_level",
         reference::equal_level,
-        lent::equal_level,
+        |file, [a, b], work| lent::equal_level(file, a, b, work),
     );
 }
 
@@ -236,38 +230,43 @@ fn try_equal_level(case: &mut Case) {
 fn try_level(
     case: &mut Case,
     call: &str,
-    reference: impl Fn(&[u8], usize) -> lent::LevelNumbers,
-    library: impl Fn(&[u8], &mut [u16]) -> lent::LevelNumbers,
+    reference: impl Fn(&[u8], [&[u8]; 2], usize) -> lent::LevelNumbers,
+    library: impl Fn(&[u8], [&[u8]; 2], &mut [u16]) -> lent::LevelNumbers,
 ) {
     let (n, m) = case.claimed();
-    for [length] in lengths_to_try(&mut case.draw, [work_length(n, m)]) {
-        let mut work = Table::words(&mut case.draw, length);
+    for (groups, lengths) in tries_inside(&mut case.draw, n, [n, n, work_length(n, m)]) {
+        let mut work = Table::words(&mut case.draw, lengths[2]);
+        let library_groups = groups.clone();
         let mut library_work = work.clone();
-        let expected = reference(&case.file, length);
-        let given = library(&case.file, library_work.lend());
+        let expected = reference(&case.file, lend(&groups), lengths[2]);
+        let given = library(&case.file, lend(&library_groups), library_work.lend());
         clear_work(case, expected.refusal, [&mut work, &mut library_work]);
         case.seen(expected.refusal);
         case.compare(
-            || format!("{call}, work {length}"),
-            (expected, work),
-            (given, library_work),
+            || format!("{call}, lengths {lengths:?}"),
+            (expected, groups, work),
+            (given, library_groups, library_work),
         );
     }
 }
 
 fn try_layers(case: &mut Case) {
     let (n, m) = case.claimed();
-    for lengths in lengths_to_try(&mut case.draw, [m, work_length(n, m)]) {
-        let [mut layers, mut work] = lengths.map(|length| Table::words(&mut case.draw, length));
+    for (groups, lengths) in tries_inside(&mut case.draw, n, [n, n, m, work_length(n, m)]) {
+        let mut layers = Table::words(&mut case.draw, lengths[2]);
+        let mut work = Table::words(&mut case.draw, lengths[3]);
+        let library_groups = groups.clone();
         let (mut library_layers, mut library_work) = (layers.clone(), work.clone());
-        let expected = reference::layers(&case.file, layers.lend(), lengths[1]);
-        let given = lent::layers(&case.file, library_layers.lend(), library_work.lend());
+        let expected = reference::layers(&case.file, lend(&groups), layers.lend(), lengths[3]);
+        let [a, b] = lend(&library_groups);
+        let (lent_layers, lent_work) = (library_layers.lend(), library_work.lend());
+        let given = lent::layers(&case.file, a, b, lent_layers, lent_work);
         clear_work(case, expected.refusal, [&mut work, &mut library_work]);
         case.seen(expected.refusal);
         case.compare(
             || format!("layers, lengths {lengths:?}"),
-            (expected, layers, work),
-            (given, library_layers, library_work),
+            (expected, groups, layers, work),
+            (given, library_groups, library_layers, library_work),
         );
     }
 }

@@ -1,13 +1,20 @@
 //! Networks of up to four members, where every pair of groups can be looked at.
 use crate::calls::try_all;
 use crate::case::Case;
+use crate::inside::Groups;
 use cogsplice::lent;
-use networks::{encode, Network};
+use networks::{encode, Link, Network};
 use reference::work_length;
 use std::cmp::Reverse;
 
 /// Groups as sets of bits, one for each member.
 type Pair = (usize, usize);
+
+/// A network, and the groups A and B that every pair lies in.
+struct Search {
+    network: Network,
+    within: Pair,
+}
 
 /// Bit a × n + b of a picture stands for the link from a to b. All pictures for n up to 3 come first, then random ones for 4.
 fn pictured(case: &mut Case) -> Network {
@@ -28,17 +35,35 @@ fn pictured(case: &mut Case) -> Network {
     Network { n, links }
 }
 
+/// A and B to search inside: all of them for n up to 2, else everyone and three drawn pairs.
+fn withins(case: &mut Case, n: usize) -> Vec<Pair> {
+    let everyone = (1 << n) - 1;
+    if n <= 2 {
+        return all_pairs((everyone, everyone)).collect();
+    }
+    let mut drawn = || case.draw.below(1 << n);
+    let mut withins = vec![(everyone, everyone)];
+    withins.extend([(); 3].map(|()| (drawn(), drawn())));
+    withins
+}
+
 fn inside(group: usize, member: usize) -> bool {
     group >> member & 1 == 1
 }
 
+fn is_part(group: usize, of: usize) -> bool {
+    group & !of == 0
+}
+
+/// Whether a link goes from S to T.
+fn between((s, t): Pair, (voucher, vouched): Link) -> bool {
+    inside(s, voucher) && inside(t, vouched)
+}
+
 /// E(S,T).
-fn edges(network: &Network, (s, t): Pair) -> usize {
-    network
-        .links
-        .iter()
-        .filter(|&&(a, b)| inside(s, a) && inside(t, b))
-        .count()
+fn edges(network: &Network, pair: Pair) -> usize {
+    let links = network.links.iter();
+    links.filter(|&&link| between(pair, link)).count()
 }
 
 /// Whether each member of S has at least x links into T and each member of T at least y from S.
@@ -49,17 +74,49 @@ fn satisfies(network: &Network, (s, t): Pair, x: usize, y: usize) -> bool {
     })
 }
 
-/// Every pair of groups.
-fn all_pairs(n: usize) -> impl Iterator<Item = Pair> {
-    (0..1usize << n).flat_map(move |s| (0..1usize << n).map(move |t| (s, t)))
+/// Every pair of groups inside A and B.
+fn all_pairs((a, b): Pair) -> impl Iterator<Item = Pair> {
+    let parts = |of: usize| (0..=of).filter(move |&group| is_part(group, of));
+    parts(a).flat_map(move |s| parts(b).map(move |t| (s, t)))
+}
+
+impl Search {
+    /// A, B and a work table as they are lent.
+    fn tables(&self) -> (Groups, Vec<u16>) {
+        let (n, m) = (self.network.n, self.network.links.len());
+        let bytes = |group| (0..n).map(|member| inside(group, member) as u8).collect();
+        let (a, b) = self.within;
+        ([bytes(a), bytes(b)], vec![0; work_length(n, m)])
+    }
+
+    /// The same search among the links whose numbers are kept.
+    fn only(&self, keep: impl Fn(usize) -> bool) -> Search {
+        let links = self.network.links.iter().enumerate();
+        let kept = links.filter(|&(e, _)| keep(e)).map(|(_, &link)| link);
+        Search {
+            network: Network {
+                n: self.network.n,
+                links: kept.collect(),
+            },
+            within: self.within,
+        }
+    }
+
+    /// Every pair of groups inside A and B in which each member of S has at least x links into T and each member of T at least y from S.
+    fn satisfying(&self, x: usize, y: usize) -> impl Iterator<Item = Pair> + '_ {
+        all_pairs(self.within).filter(move |&pair| satisfies(&self.network, pair, x, y))
+    }
 }
 
 /// The library's [x,y]-core, and E, |S| and |T| with it.
-fn library_core(case: &Case, network: &Network, x: usize, y: usize) -> (Pair, [usize; 3]) {
-    let n = network.n;
+fn library_core(case: &Case, search: &Search, x: usize, y: usize) -> (Pair, [usize; 3]) {
+    let n = search.network.n;
     let (mut s, mut t) = (vec![0; n], vec![0; n]);
-    let mut work = vec![0; work_length(n, network.links.len())];
-    let core = lent::core(&case.file, x as u16, y as u16, &mut s, &mut t, &mut work);
+    let ([a, b], mut work) = search.tables();
+    let [asked_x, asked_y] = [x, y].map(|asked| asked as u16);
+    let core = lent::core(
+        &case.file, &a, &b, asked_x, asked_y, &mut s, &mut t, &mut work,
+    );
     (
         (bits(&s), bits(&t)),
         [core.edges as usize, core.sources, core.targets],
@@ -78,26 +135,36 @@ fn size(group: usize) -> usize {
 
 pub fn enumerate(case: &mut Case) {
     let network = pictured(case);
-    case.kind = format!("picture, n {}, m {}", network.n, network.links.len());
+    let kind = format!("picture, n {}, m {}", network.n, network.links.len());
+    case.kind = kind.clone();
     case.file = encode(&network);
     try_all(case);
-    let top = network.n + 2;
-    for (x, y) in (0..top).flat_map(|x| (0..top).map(move |y| (x, y))) {
-        try_core_by_definition(case, &network, x, y);
+    for within in withins(case, network.n) {
+        case.kind = format!("{kind}, inside {:#b} and {:#b}", within.0, within.1);
+        let network = network.clone();
+        try_search(case, &Search { network, within });
     }
-    let alive = alive(&network);
-    try_levels(case, &network, &alive);
-    try_finding(case, &network, &alive);
-    try_layers(case, &network);
+}
+
+/// Every call that searches inside A and B.
+fn try_search(case: &mut Case, search: &Search) {
+    let top = search.network.n + 2;
+    for (x, y) in (0..top).flat_map(|x| (0..top).map(move |y| (x, y))) {
+        try_core_by_definition(case, search, x, y);
+    }
+    let alive = alive(search);
+    try_levels(case, search, &alive);
+    try_finding(case, search, &alive);
+    try_layers(case, search);
 }
 
 /// The x and y of at least 1 with a pair of non-empty groups that satisfies the definition.
-fn alive(network: &Network) -> Vec<(usize, usize)> {
-    let top = network.n + 2;
+fn alive(search: &Search) -> Vec<(usize, usize)> {
+    let top = search.network.n + 2;
     let numbers = (1..top).flat_map(|x| (1..top).map(move |y| (x, y)));
     let non_empty = |&(x, y): &(usize, usize)| {
-        let mut pairs = all_pairs(network.n).filter(|&(s, t)| s > 0 && t > 0);
-        pairs.any(|pair| satisfies(network, pair, x, y))
+        let mut pairs = search.satisfying(x, y);
+        pairs.any(|(s, t)| s > 0 && t > 0)
     };
     numbers.filter(non_empty).collect()
 }
@@ -110,83 +177,89 @@ fn best_of(alive: &[(usize, usize)]) -> (usize, usize) {
     best.copied().unwrap_or((0, 0))
 }
 
-/// The core satisfies the definition, and every other such pair has its S inside this S and its T inside this T.
-fn try_core_by_definition(case: &mut Case, network: &Network, x: usize, y: usize) {
-    let (core, numbers) = library_core(case, network, x, y);
+/// The core lies inside A and B and satisfies the definition, and every other such pair has its S inside this S and its T inside this T.
+/// For x = 0 S is A, for y = 0 T is B.
+fn try_core_by_definition(case: &mut Case, search: &Search, x: usize, y: usize) {
+    let Search { network, within } = search;
+    let (core, numbers) = library_core(case, search, x, y);
     let expected = [edges(network, core), size(core.0), size(core.1)];
     case.compare(|| format!("core {x} {y}: numbers"), expected, numbers);
+    let lies = is_part(core.0, within.0) && is_part(core.1, within.1);
+    case.compare(|| format!("core {x} {y}: inside"), true, lies);
     let satisfied = satisfies(network, core, x, y);
     case.compare(|| format!("core {x} {y}: satisfies"), true, satisfied);
-    let largest = all_pairs(network.n)
-        .filter(|&pair| satisfies(network, pair, x, y))
-        .all(|(s, t)| s & !core.0 == 0 && t & !core.1 == 0);
+    let largest = search
+        .satisfying(x, y)
+        .all(|(s, t)| is_part(s, core.0) && is_part(t, core.1));
     case.compare(|| format!("core {x} {y}: largest"), true, largest);
+    let whole = (x > 0 || core.0 == within.0) && (y > 0 || core.1 == within.1);
+    case.compare(|| format!("core {x} {y}: whole for 0"), true, whole);
 }
 
 /// Levels by the definition: the largest number of at least 1 with a non-empty core, or 0.
-fn try_levels(case: &mut Case, network: &Network, alive: &[(usize, usize)]) {
-    let top = network.n + 2;
+fn try_levels(case: &mut Case, search: &Search, alive: &[(usize, usize)]) {
+    let top = search.network.n + 2;
     let largest = |core: &dyn Fn(usize) -> (usize, usize)| {
         let levels = (1..top).filter(|&level| alive.contains(&core(level)));
         levels.max().unwrap_or(0)
     };
-    let mut work = vec![0; work_length(network.n, network.links.len())];
+    let ([a, b], mut work) = search.tables();
     for asked in 1..top {
-        let level = lent::level(&case.file, asked as u16, &mut work).level;
+        let level = lent::level(&case.file, &a, &b, asked as u16, &mut work).level;
         case.compare(|| format!("level {asked}"), largest(&|y| (asked, y)), level);
-        let across = lent::level_across(&case.file, asked as u16, &mut work).level;
+        let across = lent::level_across(&case.file, &a, &b, asked as u16, &mut work).level;
         case.compare(
             || format!("level_across {asked}"),
             largest(&|x| (x, asked)),
             across,
         );
     }
-    let equal = lent::equal_level(&case.file, &mut work).level;
+    let equal = lent::equal_level(&case.file, &a, &b, &mut work).level;
     case.compare(|| "equal_level".into(), largest(&|k| (k, k)), equal);
 }
 
-/// The finding by the definition, and its bounds; its x × y is 0 exactly when there is no link.
-fn try_finding(case: &mut Case, network: &Network, alive: &[(usize, usize)]) {
+/// The finding by the definition, and its bounds; its x × y is 0 exactly when no link goes from A to B.
+fn try_finding(case: &mut Case, search: &Search, alive: &[(usize, usize)]) {
+    let Search { network, within } = search;
     let best = best_of(alive);
     let (mut s, mut t) = (vec![0; network.n], vec![0; network.n]);
-    let mut work = vec![0; work_length(network.n, network.links.len())];
-    let found = lent::finding(&case.file, &mut s, &mut t, &mut work);
+    let ([a, b], mut work) = search.tables();
+    let found = lent::finding(&case.file, &a, &b, &mut s, &mut t, &mut work);
     case.compare(|| "finding: x and y".into(), best, (found.x, found.y));
-    let quiet = network.links.is_empty();
+    let quiet = edges(network, *within) == 0;
     let zero = found.x * found.y == 0;
     case.compare(|| "finding: x × y is 0".into(), quiet, zero);
-    try_bounds(case, "finding", network, best, (bits(&s), bits(&t)));
+    try_bounds(case, "finding", search, best, (bits(&s), bits(&t)));
 }
 
-/// The layers by the definition, and the bounds of each over the links still in at its start.
-fn try_layers(case: &mut Case, network: &Network) {
-    let (n, m) = (network.n, network.links.len());
-    let (mut layers, mut work) = (vec![0; m], vec![0; work_length(n, m)]);
-    let count = lent::layers(&case.file, &mut layers, &mut work).layers;
-    let within = layers
-        .iter()
-        .all(|&layer| (1..=count).contains(&layer.into()))
-        && count <= m;
-    case.compare(|| "layers: from 1 to their number".into(), true, within);
-    let links_where = |keep: &dyn Fn(usize) -> bool| Network {
-        n,
-        links: (0..m)
-            .filter(|&e| keep(layers[e].into()))
-            .map(|e| network.links[e])
-            .collect(),
+/// The layers by the definition, and the bounds of each over the links still in at its start. Every link that does not go from A to B
+/// has 0.
+fn try_layers(case: &mut Case, search: &Search) {
+    let Search { network, within } = search;
+    let m = network.links.len();
+    let mut layers = vec![0; m];
+    let ([a, b], mut work) = search.tables();
+    let count = lent::layers(&case.file, &a, &b, &mut layers, &mut work).layers;
+    let layer_of = |e: usize| usize::from(layers[e]);
+    let is_told = |e: usize| {
+        if between(*within, network.links[e]) {
+            (1..=count).contains(&layer_of(e))
+        } else {
+            layer_of(e) == 0
+        }
     };
+    let told = (0..m).all(is_told) && count <= m;
+    case.compare(|| "layers: from 1 to their number, or 0".into(), true, told);
     let (mut product, mut sum) = (usize::MAX, 0);
     for layer in 1..=count.min(m) {
         let name = format!("layer {layer}");
-        let still_in = links_where(&|of_link| of_link >= layer);
-        let taken = links_where(&|of_link| of_link == layer);
+        let still_in = search.only(|e| layer_of(e) >= layer);
+        let taken = search.only(|e| layer_of(e) == layer).network;
         let best = best_of(&alive(&still_in));
         let pair = core_by_definition(&still_in, best);
-        let mut expected = still_in.clone();
-        expected
-            .links
-            .retain(|&(a, b)| inside(pair.0, a) && inside(pair.1, b));
-        case.compare(|| format!("{name}: links"), expected, taken.clone());
+        let mut expected = still_in.network.clone();
+        expected.links.retain(|&link| between(pair, link));
+        case.compare(|| format!("{name}: links"), &expected, &taken);
         let falls = best.0 * best.1 <= product;
         case.compare(|| format!("{name}: its product does not rise"), true, falls);
         // The groups as the library's links name them.
@@ -196,29 +269,30 @@ fn try_layers(case: &mut Case, network: &Network) {
             .fold((0, 0), |(s, t), &(a, b)| (s | 1 << a, t | 1 << b));
         try_bounds(case, &name, &still_in, best, named);
         product = best.0 * best.1;
-        sum += edges(&still_in, named);
+        sum += edges(&still_in.network, named);
     }
-    case.compare(|| "layers: the sum of their E".into(), m, sum);
+    let from_a_to_b = edges(network, *within);
+    case.compare(|| "layers: the sum of their E".into(), from_a_to_b, sum);
 }
 
 /// The [x,y]-core by the definition: the union of all pairs that satisfy it.
-fn core_by_definition(network: &Network, (x, y): (usize, usize)) -> Pair {
-    all_pairs(network.n)
-        .filter(|&pair| satisfies(network, pair, x, y))
+fn core_by_definition(search: &Search, (x, y): (usize, usize)) -> Pair {
+    search
+        .satisfying(x, y)
         .fold((0, 0), |(s, t), pair| (s | pair.0, t | pair.1))
 }
 
-/// No pair of non-empty groups has more than twice the density of the pair found. Its groups are non-empty, or both empty where x × y
-/// is 0.
-fn try_bounds(case: &mut Case, name: &str, network: &Network, (x, y): (usize, usize), found: Pair) {
-    let squared = |pair| edges(network, pair).pow(2);
+/// No pair of non-empty groups inside A and B has more than twice the density of the pair found. Its groups are non-empty, or both empty
+/// where x × y is 0.
+fn try_bounds(case: &mut Case, name: &str, search: &Search, (x, y): (usize, usize), found: Pair) {
+    let squared = |pair| edges(&search.network, pair).pow(2);
     let area = |(s, t): Pair| size(s) * size(t);
     let groups = match x * y {
         0 => found == (0, 0),
         _ => area(found) > 0,
     };
     let below = squared(found) >= x * y * area(found) && groups;
-    let non_empty = || all_pairs(network.n).filter(|&pair| area(pair) > 0);
+    let non_empty = || all_pairs(search.within).filter(|&pair| area(pair) > 0);
     let above = non_empty().all(|pair| squared(pair) <= 4 * x * y * area(pair));
     let twice =
         non_empty().all(|pair| squared(pair) * area(found) <= 4 * squared(found) * area(pair));

@@ -8,6 +8,7 @@ mod case;
 mod damage;
 mod enumerate;
 mod indexes;
+mod inside;
 mod kinds;
 mod networks;
 mod order;

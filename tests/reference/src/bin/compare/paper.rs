@@ -1,7 +1,8 @@
-//! The examples and limits that the papers name, and the layers of these examples as worked out by hand, by the reference and by the
-//! library.
+//! The examples and limits that the papers name, and the layers of these examples and W among some members as worked out by hand, by the
+//! reference and by the library.
 use crate::calls::try_all;
 use crate::case::Case;
+use crate::inside::{lend, Groups};
 use cogsplice::lent::{
     self, CheckNumbers, FindingNumbers, LayersNumbers, LevelNumbers, TotalsNumbers, WriteNumbers,
 };
@@ -26,6 +27,21 @@ fn members(group: &[u8]) -> Vec<usize> {
         .collect()
 }
 
+/// Groups by their members, in tables two bytes longer than n: no call reads or writes the last two.
+fn groups_of(n: usize, members: [&[usize]; 2]) -> Groups {
+    members.map(|group| {
+        let bytes = (0..n).map(|member| group.contains(&member) as u8);
+        bytes.chain([7, 7]).collect()
+    })
+}
+
+/// Everyone of the case's members as A and as B.
+fn everyone(case: &Case) -> Groups {
+    let n = case.claimed().0;
+    let all: Vec<usize> = (0..n).collect();
+    groups_of(n, [&all, &all])
+}
+
 /// Network W.
 pub fn example_file(case: &mut Case) {
     case.kind = "W".into();
@@ -34,11 +50,12 @@ pub fn example_file(case: &mut Case) {
 
 pub fn paper(case: &mut Case) {
     example_file(case);
-    expect_core(case, 2, 3, 6, &[0, 1, 2], &[3, 4]);
-    expect_core(case, 1, 2, 8, &[0, 1, 2, 4, 5], &[3, 4, 5]);
-    expect_core(case, 0, 4, 0, &[0, 1, 2, 3, 4, 5], &[]);
-    expect_core(case, 3, 0, 0, &[], &[0, 1, 2, 3, 4, 5]);
-    expect_levels(case);
+    let all = everyone(case);
+    expect_core(case, &all, [2, 3], 6, &[0, 1, 2], &[3, 4]);
+    expect_core(case, &all, [1, 2], 8, &[0, 1, 2, 4, 5], &[3, 4, 5]);
+    expect_core(case, &all, [0, 4], 0, &[0, 1, 2, 3, 4, 5], &[]);
+    expect_core(case, &all, [3, 0], 0, &[], &[0, 1, 2, 3, 4, 5]);
+    expect_levels(case, &all, &[(1, 3), (2, 3), (3, 0)], &[(3, 2)]);
     expect_finding(case, [2, 3, 2, 6], &[0, 1, 2], &[3, 4]);
     let enough = work_length(6, 8);
     expect_layers(case, [8, enough], (0, 2), &[1, 1, 1, 1, 1, 1, 2, 2]);
@@ -48,6 +65,7 @@ pub fn paper(case: &mut Case) {
     let text = report(&case.file);
     case.compare(|| "report".into(), W_REPORT.to_string(), text);
     try_all(case);
+    expect_regions(case);
     set(case, "P6", 4, &[(0, 1), (0, 2), (0, 3)]);
     expect_finding(case, [3, 1, 1, 3], &[0], &[1, 2, 3]);
     expect_layers(case, [3, work_length(4, 3)], (0, 1), &[1, 1, 1]);
@@ -85,7 +103,40 @@ fn expect_even_pairs(case: &mut Case) {
     try_all(case);
 }
 
-fn expect_core(case: &mut Case, x: u16, y: u16, edges: u32, s: &[usize], t: &[usize]) {
+/// W among some members only: apart, A and B that overlap, and without a link from A to B.
+fn expect_regions(case: &mut Case) {
+    let lengths = [10, work_length(6, 8)];
+    let apart = groups_of(6, [&[0, 1, 5], &[3, 4]]);
+    expect_core(case, &apart, [2, 2], 4, &[0, 1], &[3, 4]);
+    expect_core(case, &apart, [0, 2], 4, &[0, 1, 5], &[3, 4]);
+    expect_core(case, &apart, [0, 3], 0, &[0, 1, 5], &[]);
+    expect_core(case, &apart, [3, 0], 0, &[], &[3, 4]);
+    expect_levels(case, &apart, &[(1, 2), (2, 2), (3, 0)], &[(2, 2), (3, 0)]);
+    expect_finding_inside(case, &apart, [2, 2, 2, 4], &[0, 1], &[3, 4]);
+    expect_layers_inside(case, &apart, lengths, (0, 1), &[1, 1, 1, 1, 0, 0, 0, 0]);
+    let overlapping = groups_of(6, [&[2, 4, 5], &[0, 1, 2, 3, 4, 5]]);
+    expect_levels(case, &overlapping, &[(1, 2), (2, 1)], &[(1, 2), (2, 1)]);
+    expect_finding_inside(case, &overlapping, [1, 2, 1, 2], &[4, 5], &[5]);
+    let layers = [0, 0, 0, 0, 2, 2, 1, 1];
+    expect_layers_inside(case, &overlapping, lengths, (0, 2), &layers);
+    for quiet in [[&[0, 1, 2, 3][..], &[0, 5]], [&[], &[3, 4]]] {
+        let groups = groups_of(6, quiet);
+        expect_core(case, &groups, [0, 0], 0, quiet[0], quiet[1]);
+        expect_core(case, &groups, [0, 1], 0, quiet[0], &[]);
+        expect_finding_inside(case, &groups, [0; 4], &[], &[]);
+        expect_layers_inside(case, &groups, lengths, (0, 0), &[0; 8]);
+    }
+}
+
+/// E, S and T of the [x,y]-core of W inside A and B.
+fn expect_core(
+    case: &mut Case,
+    groups: &Groups,
+    [x, y]: [u16; 2],
+    edges: u32,
+    s: &[usize],
+    t: &[usize],
+) {
     let (mut lent_s, mut lent_t) = (vec![0; 6], vec![0; 6]);
     let mut work = vec![0; work_length(6, 8)];
     let expected = TotalsNumbers {
@@ -95,41 +146,72 @@ fn expect_core(case: &mut Case, x: u16, y: u16, edges: u32, s: &[usize], t: &[us
         sources: s.len(),
         targets: t.len(),
     };
-    let plain = reference::core(&case.file, x, y, &mut lent_s, &mut lent_t, work.len());
-    let groups = (members(&lent_s), members(&lent_t));
+    let inside = lend(groups);
+    let plain = reference::core(
+        &case.file,
+        inside,
+        x,
+        y,
+        &mut lent_s,
+        &mut lent_t,
+        work.len(),
+    );
+    let found = (members(&lent_s), members(&lent_t));
     let wanted = (expected, (s.to_vec(), t.to_vec()));
     case.compare(
         || format!("core {x} {y}: reference"),
         &wanted,
-        &(plain, groups),
+        &(plain, found),
     );
-    let given = lent::core(&case.file, x, y, &mut lent_s, &mut lent_t, &mut work);
-    let groups = (members(&lent_s), members(&lent_t));
-    case.compare(|| format!("core {x} {y}"), &wanted, &(given, groups));
+    let [a, b] = inside;
+    let given = lent::core(&case.file, a, b, x, y, &mut lent_s, &mut lent_t, &mut work);
+    let found = (members(&lent_s), members(&lent_t));
+    case.compare(|| format!("core {x} {y}"), &wanted, &(given, found));
 }
 
-/// P5.
-fn expect_levels(case: &mut Case) {
+/// Levels of W inside A and B, as P5 gives them for everyone: numbers with their levels, then numbers with their levels across.
+fn expect_levels(
+    case: &mut Case,
+    groups: &Groups,
+    levels: &[(u16, usize)],
+    across: &[(u16, usize)],
+) {
     let mut work = vec![0; work_length(6, 8)];
     let answer = |level| LevelNumbers {
         refusal: 0,
         link: 0,
         level,
     };
-    for (x, level) in [(1, 3), (2, 3), (3, 0)] {
-        let plain = reference::level(&case.file, x, work.len());
+    let inside = lend(groups);
+    let [a, b] = inside;
+    for &(x, level) in levels {
+        let plain = reference::level(&case.file, inside, x, work.len());
         case.compare(|| format!("level {x}: reference"), answer(level), plain);
-        let given = lent::level(&case.file, x, &mut work);
+        let given = lent::level(&case.file, a, b, x, &mut work);
         case.compare(|| format!("level {x}"), answer(level), given);
     }
-    let plain = reference::level_across(&case.file, 3, work.len());
-    case.compare(|| "level_across 3: reference".into(), answer(2), plain);
-    let given = lent::level_across(&case.file, 3, &mut work);
-    case.compare(|| "level_across 3".into(), answer(2), given);
+    for &(y, level) in across {
+        let plain = reference::level_across(&case.file, inside, y, work.len());
+        let name = format!("level_across {y}");
+        case.compare(|| format!("{name}: reference"), answer(level), plain);
+        let given = lent::level_across(&case.file, a, b, y, &mut work);
+        case.compare(|| name, answer(level), given);
+    }
+}
+
+fn expect_finding(case: &mut Case, numbers: [usize; 4], s: &[usize], t: &[usize]) {
+    let all = everyone(case);
+    expect_finding_inside(case, &all, numbers, s, t);
 }
 
 /// x, y, the equal level and E; S and T. Tables of other bytes are lent, two longer than the groups: the two last stay.
-fn expect_finding(case: &mut Case, numbers: [usize; 4], s: &[usize], t: &[usize]) {
+fn expect_finding_inside(
+    case: &mut Case,
+    inside: &Groups,
+    numbers: [usize; 4],
+    s: &[usize],
+    t: &[usize],
+) {
     let [x, y, equal, edges] = numbers;
     let (sources, targets) = (s.len(), t.len());
     let edges = edges as u32;
@@ -144,25 +226,33 @@ fn expect_finding(case: &mut Case, numbers: [usize; 4], s: &[usize], t: &[usize]
         targets,
     };
     let (n, m) = case.claimed();
-    let table = |group: &[usize]| -> Vec<u8> {
-        let bytes = (0..n).map(|member| group.contains(&member) as u8);
-        bytes.chain([7, 7]).collect()
-    };
-    let wanted = (expected, [table(s), table(t)]);
+    let wanted = (expected, groups_of(n, [s, t]));
     let mut work = vec![0; work_length(n, m)];
     let mut groups = [vec![7; n + 2], vec![7; n + 2]];
     let [lent_s, lent_t] = &mut groups;
-    let plain = reference::finding(&case.file, lent_s, lent_t, work.len());
+    let plain = reference::finding(&case.file, lend(inside), lent_s, lent_t, work.len());
     case.compare(|| "finding: reference".into(), &wanted, &(plain, groups));
     let mut groups = [vec![7; n + 2], vec![7; n + 2]];
     let [lent_s, lent_t] = &mut groups;
-    let given = lent::finding(&case.file, lent_s, lent_t, &mut work);
+    let [a, b] = lend(inside);
+    let given = lent::finding(&case.file, a, b, lent_s, lent_t, &mut work);
     case.compare(|| "finding".into(), &wanted, &(given, groups));
+}
+
+fn expect_layers(case: &mut Case, lengths: [usize; 2], numbers: (u16, usize), of_links: &[u16]) {
+    let all = everyone(case);
+    expect_layers_inside(case, &all, lengths, numbers, of_links);
 }
 
 /// For a table of layers and a work table of these lengths: the refusal, the number of layers, and the layer of each link. No other
 /// entry of the table changes.
-fn expect_layers(case: &mut Case, lengths: [usize; 2], numbers: (u16, usize), of_links: &[u16]) {
+fn expect_layers_inside(
+    case: &mut Case,
+    inside: &Groups,
+    lengths: [usize; 2],
+    numbers: (u16, usize),
+    of_links: &[u16],
+) {
     let before = vec![7; lengths[0]];
     let mut after = before.clone();
     after[..of_links.len()].copy_from_slice(of_links);
@@ -174,10 +264,11 @@ fn expect_layers(case: &mut Case, lengths: [usize; 2], numbers: (u16, usize), of
     };
     let wanted = (expected, after);
     let mut table = before.clone();
-    let plain = reference::layers(&case.file, &mut table, lengths[1]);
+    let plain = reference::layers(&case.file, lend(inside), &mut table, lengths[1]);
     case.compare(|| "layers: reference".into(), &wanted, &(plain, table));
     let (mut table, mut work) = (before, vec![0; lengths[1]]);
-    let given = lent::layers(&case.file, &mut table, &mut work);
+    let [a, b] = lend(inside);
+    let given = lent::layers(&case.file, a, b, &mut table, &mut work);
     case.compare(|| "layers".into(), &wanted, &(given, table));
 }
 

@@ -6,8 +6,8 @@ use lib.ListN.{getD}
 use Rattle.network.specs.File.{graphOf}
 use Rattle.network.specs.Groups.{groupOf}
 use borrow.Author.Needs.{needs}
-use Rattle.layering.proofs.takes.is_between.Statement.{statement}
-use Rattle.layering.proofs.takes.is_between.Tie as tie
+use Rattle.filling.proofs.listings.is_between.Statement.{statement}
+use Rattle.filling.proofs.listings.is_between.Tie as tie
 
 end-at-requires : tie.Need-end-at-requires
 end-at-requires c κs = search needs
