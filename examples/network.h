@@ -1,4 +1,5 @@
-/* What the examples share: the file that they look at, a group of everyone to search in, and the line of a refusal. */
+/* What the examples share: the file that they look at, a group of everyone to search in, and the lines of a refusal and of a pair. What not
+ * every example needs is inline. */
 #include "cogsplice.h"
 
 #include <stdio.h>
@@ -29,7 +30,7 @@ static const uint8_t *network_file(int argc, char **argv, size_t *length) {
 }
 
 /* A group that everyone is in: as A and as B it has the whole network searched. */
-static const uint8_t *everyone(void) {
+static inline const uint8_t *everyone(void) {
     static uint8_t group[COGSPLICE_GROUP(COGSPLICE_MEMBERS)];
     memset(group, 1, sizeof group);
     return group;
@@ -40,4 +41,19 @@ static void print_refusal(uint16_t refusal, uint16_t link) {
     if (refusal == COGSPLICE_REFUSED_END || refusal == COGSPLICE_REFUSED_REPEAT)
         printf(" at %u", (unsigned)link);
     printf("\n");
+}
+
+static inline void print_group(const char *name, const uint8_t *group, size_t n) {
+    printf("%s", name);
+    for (size_t member = 0; member < n; member++)
+        if (group[member])
+            printf(" %zu", member);
+    printf("\n");
+}
+
+/* Three lines: E, |S| and |T|, then the members of S and of T. */
+static inline void print_pair(uint32_t edges, const uint8_t *s, size_t sources, const uint8_t *t, size_t targets, size_t n) {
+    printf("links %u vouchers %zu vouched %zu\n", (unsigned)edges, sources, targets);
+    print_group("S", s, n);
+    print_group("T", t, n);
 }

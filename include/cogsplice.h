@@ -212,6 +212,18 @@ struct cogsplice_layers_numbers cogsplice_layers(
     uint16_t *layers, size_t layers_length,
     uint16_t *work, size_t work_length);
 
+/* Writes the pair of the harmonic measure, 2 * E(S,T) / (|S| + |T|), to s and t. A place is a side and a member, so that each member has
+ * two: as a voucher in S, as a vouched member in T. From everyone in both groups the place with the fewest links to places not yet dropped
+ * is dropped, again and again; ties go to the voucher side, then to the smaller member. Of all pairs met so, the first too and the last,
+ * where both groups are empty, not, the earliest with the greatest measure is written. No pair of groups has more than twice its measure:
+ * for all non-empty S and T, E(S,T) * (sources + targets) is at most 2 * edges * (|S| + |T|). Without links all numbers are 0 and both
+ * groups are empty. The whole network is searched: there are no A and B. Refusals 1 to 8, 9. */
+struct cogsplice_totals_numbers cogsplice_harmonic(
+    const uint8_t *file, size_t file_length,
+    uint8_t *s, size_t s_length,
+    uint8_t *t, size_t t_length,
+    uint16_t *work, size_t work_length);
+
 /* Whether two findings are equal: x1, y1 of one and x2, y2 of the other. */
 bool cogsplice_equal_findings(size_t x1, size_t y1, size_t x2, size_t y2);
 

@@ -60,6 +60,9 @@ static void no_table(void) {
     EXPECT(9, cogsplice_layers(W, ALL(a), NONE, ALL(layers), ALL(work)));
     EXPECT(9, cogsplice_layers(W, ALL(a), ALL(b), NONE, ALL(work)));
     EXPECT(9, cogsplice_layers(W, ALL(a), ALL(b), ALL(layers), NONE));
+    EXPECT(9, cogsplice_harmonic(W, NONE, ALL(t), ALL(work)));
+    EXPECT(9, cogsplice_harmonic(W, ALL(s), NONE, ALL(work)));
+    EXPECT(9, cogsplice_harmonic(W, ALL(s), ALL(t), NONE));
 }
 
 /* Of a network without members and links, groups, rows and layers of no entries are long enough. */
@@ -74,6 +77,7 @@ static void enough(const uint8_t *file, size_t length) {
     EXPECT(0, cogsplice_equal_level(file, length, NONE, NONE, ALL(work)));
     EXPECT(0, cogsplice_finding(file, length, NONE, NONE, NONE, NONE, ALL(work)));
     EXPECT(0, cogsplice_layers(file, length, NONE, NONE, NONE, ALL(work)));
+    EXPECT(0, cogsplice_harmonic(file, length, NONE, NONE, ALL(work)));
 }
 
 /* Outputs, starts and work tables of no entries are too short for every network. */
@@ -87,6 +91,7 @@ static void not_enough(const uint8_t *file, size_t length) {
     EXPECT(9, cogsplice_equal_level(file, length, NONE, NONE, NONE));
     EXPECT(9, cogsplice_finding(file, length, NONE, NONE, NONE, NONE, NONE));
     EXPECT(9, cogsplice_layers(file, length, NONE, NONE, NONE, NONE));
+    EXPECT(9, cogsplice_harmonic(file, length, NONE, NONE, NONE));
 }
 
 static void row(unsigned refusal, bool side, const uint16_t *table, size_t length) {

@@ -65,8 +65,8 @@ pub fn measure(input: Input, calls: &[Call]) -> Measured {
 
 /// Every call on both sides: the same answer, and in the end the same tables. The file is the input's, that without links, or no bytes.
 fn compare(library: &mut Library, plain: &mut PlainRust, file: &[u8], input: &Input) {
-    // The core and the finding write the same groups: the tables are compared after each of the two.
-    for last in [Call::Core, Call::Finding] {
+    // The core, the finding and the harmonic call write to the same groups: the tables are compared after each of the three.
+    for last in [Call::Core, Call::Finding, Call::Harmonic] {
         let others = Call::ALL.into_iter().filter(|&call| call != last);
         for call in others.chain([last]) {
             let told = library.call(call, file, input);

@@ -1,10 +1,12 @@
 //! The library's calls in plain Rust, written for speed: the same answers, refusals and lent tables. What they sort and peel in is
 //! kept from call to call, so that no call allocates once the largest network was seen.
 mod chunks;
+mod drops;
 mod network;
 mod peel;
 
 use chunks::chunks_mut;
+use drops::Drops;
 use network::{
     counted, fill_starts, next_place, source, target, Link, Network, Sorter, HEADER_LENGTH,
 };
@@ -60,6 +62,7 @@ pub struct Index<'a> {
 pub struct Plain {
     sorter: Sorter,
     peel: Peel,
+    drops: Drops,
     ends: Vec<u16>,
     /// The links from A to B.
     inside: Vec<Link>,
@@ -210,6 +213,26 @@ impl Plain {
             });
         }
         Ok([layer.into()])
+    }
+
+    /// Writes the pair of the harmonic measure and returns E, |S| and |T|. Without links all are 0 and both groups empty.
+    pub fn harmonic(
+        &mut self,
+        file: &[u8],
+        s: &mut [u8],
+        t: &mut [u8],
+    ) -> Result<[usize; 3], Refusal> {
+        let Network { n, links, .. } = self.sorter.accept(file)?;
+        Refusal::of_tables(&[(s.len(), n), (t.len(), n)])?;
+        let (s, t) = (&mut s[..n], &mut t[..n]);
+        if links.is_empty() {
+            s.fill(0);
+            t.fill(0);
+            return Ok([0; 3]);
+        }
+        self.peel.load(n, links.iter());
+        let edges = self.drops.harmonic(&self.peel, s, t);
+        Ok([edges, size_of(s), size_of(t)])
     }
 
     /// Has the peel take the links from A to B over, and tells whether there are any. With everyone in both groups these are all links.

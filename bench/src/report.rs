@@ -11,13 +11,17 @@ struct Goal {
     most: f64,
 }
 
-const GOALS: [Goal; 5] = [
+const GOALS: [Goal; 6] = [
     Goal {
         call: Call::Finding,
         most: 1.2,
     },
     Goal {
         call: Call::Layers,
+        most: 1.2,
+    },
+    Goal {
+        call: Call::Harmonic,
         most: 1.2,
     },
     Goal {
@@ -69,7 +73,9 @@ between calls. What plain Rust sorts and peels in is kept from call to call, so 
 most once in a call, and ends a peel as soon as a side is empty. Library and plain Rust both take the level of 1 from the longest
 row, and begin a climb with the side that rises. Both ask first whether everyone is in A and B, and else list the links from A to B in
 one pass and search among these; for the layers plain Rust takes those that have a layer from the list, and searches the others anew for
-each layer.
+each layer. For the harmonic measure both find the next place to drop by a tree of matches over the places, in which a place whose
+degree fell plays only up to the first match that it loses; plain Rust has the leaves of the tree in a table too, and stops dropping
+where no link is left.
 Everyone is in A and B, but for the table of half of the members. Unless a file is called ascending, its links stand in random order.
 "
     )

@@ -11,6 +11,7 @@ const LEVEL: u16 = 2;
 pub enum Call {
     Finding,
     Layers,
+    Harmonic,
     Core,
     Level,
     Check,
@@ -20,9 +21,10 @@ pub enum Call {
 }
 
 impl Call {
-    pub const ALL: [Call; 8] = [
+    pub const ALL: [Call; 9] = [
         Call::Finding,
         Call::Layers,
+        Call::Harmonic,
         Call::Core,
         Call::Level,
         Call::Check,
@@ -38,6 +40,7 @@ impl Call {
         match self {
             Call::Finding => "finding",
             Call::Layers => "layers",
+            Call::Harmonic => "harmonic",
             Call::Core => "core [2,2]",
             Call::Level => "level of 2",
             Call::Check => "check",
@@ -112,6 +115,7 @@ impl Side for Library {
                 let told = lent::layers(file, a, b, layers, work);
                 numbers(told.refusal, told.link, [told.layers])
             }
+            Call::Harmonic => totals_numbers(lent::harmonic(file, s, t, work)),
             Call::Core => {
                 let [x, y] = CORE;
                 totals_numbers(lent::core(file, a, b, x, y, s, t, work))
@@ -198,6 +202,7 @@ impl Side for PlainRust {
         match call {
             Call::Finding => told(plain.finding(file, inside, &mut tables.s, &mut tables.t)),
             Call::Layers => told(plain.layers(file, inside, &mut tables.layers)),
+            Call::Harmonic => told(plain.harmonic(file, &mut tables.s, &mut tables.t)),
             Call::Core => told(plain.core(file, inside, CORE, &mut tables.s, &mut tables.t)),
             Call::Level => told(plain.level(file, inside, LEVEL)),
             Call::Check => told(plain.check(file)),

@@ -4,7 +4,7 @@ use Prim.Native.Nat.{ℕ, zero, suc, _+_, _*_, _<_, _≤_}
 use mathlib.Core.Bool.{Bool, true, false, not, _&&_, _||_, false≢true}
 use mathlib.Core.List.{List, [], _∷_}
 use mathlib.Core.Logic.{_⊎_, inl, inr, ⊎-elim}
-use mathlib.Core.Path.{_≡_, refl, sym, _∙_}
+use mathlib.Core.Path.{_≡_, refl, sym, ap, _∙_}
 use native.Mathlib.Nat.{le-refl, le-trans, eq-or-lt-of-le}
 use native.Mathlib.Omega.{arith}
 use borrow.Author.Tests.{ltb-true, leb-true, eqb-true, le-leb, eq-eqb, not-true}
@@ -15,6 +15,7 @@ use Rattle.graph.specs.Shapes.{Closed, total}
 use Rattle.graph.specs.Core.{Inside, Dense, CoreInside, NonemptyInside, Greatest, apart, Before, FindingInside}
 use Rattle.graph.specs.Quiet.{OutcomeInside, ring, quiet}
 use Rattle.graph.specs.Layers.{stillIn, joins, LayerInside, LayeringInside}
+use Rattle.graph.specs.Harmonic.{Harmonic}
 use Rattle.graph.proofs.Tests.{and-left, and-right}
 use Rattle.graph.proofs.Sums.{below-suc}
 use Rattle.graph.proofs.Degrees.{card-mono}
@@ -25,8 +26,9 @@ use Rattle.graph.proofs.Masks.{closed-weighing}
 use Rattle.graph.proofs.Layers.{layer-make, layer-product}
 use Rattle.network.specs.declared.Refusal.{Refusal}
 use Rattle.network.specs.File.{graphOf, none, fileRefusal}
-use Rattle.cases.specs.Cases.{members, Ring, Counts, Claim, core, level, across, finding, layers, has, gives, Rings, Says, Case, Hold}
+use Rattle.cases.specs.Cases.{members, Ring, Counts, Claim, core, level, across, finding, layers, harmonic, has, gives, Rings, Says, Case, Hold}
 use Rattle.cases.proofs.Sweep.{withOut, withIn, sourcesLeft, targetsLeft, covers-sweep}
+use Rattle.cases.proofs.Drops.{drops, foundOf, places-found}
 
 -- two tests that hold together each hold
 both : (a b : Bool) → (a && b) ≡ true → (a ≡ true) × (b ≡ true)
@@ -290,6 +292,22 @@ layering-sound {g} k A B L rings h layer =
     at : (e : ℕ) → e < g .size → (L e ≤ length rings) × (leb 1 (L e) ≡ joins g A B e)
     at e l = let (a, b) = both (leb (L e) (length rings)) _ (every-at (g .size) _ h e l) in (leb-true _ _ a, same-true b)
 
+-- (S,T) is the pair of the places that the drops find
+abbrev pub isHarmonic : Graph → Group → Group → Bool
+isHarmonic g S T =
+    let R = foundOf g (drops g (2 * g .order)) in
+    every (g .order) (λ u. same (S u) (R u)) && every (g .order) (λ v. same (T v) (R (g .order + v)))
+
+-- by the definition
+harmonic-sound : (g : Graph) (S T : Group) → isHarmonic g S T ≡ true → Harmonic g S T
+harmonic-sound g S T h =
+    let R = foundOf g (drops g (2 * g .order)) in
+    let (p, q) = both (every (g .order) (λ u. same (S u) (R u))) _ h in
+    record {
+      sources = λ u l. same-true (every-at (g .order) _ p u l) ∙ ap (λ P. P u) (sym (places-found g));
+      targets = λ v l. same-true (every-at (g .order) _ q v l) ∙ ap (λ P. P (g .order + v)) (sym (places-found g));
+    }
+
 -- two refusals are equal
 abbrev pub isRefusal : Refusal → Refusal → Bool
 isRefusal r s = eqb (r .number) (s .number) && eqb (r .link) (s .link)
@@ -318,6 +336,7 @@ holds f A B (finding x y k S T E) =
     && (isOutcome (graphOf f) A B x y (members S) (members T) && (isLast (graphOf f) A B (λ j. j) (λ j. j) k && isCounts (graphOf f) S T E))
 holds f A B (layers l rings) =
     isAccepted f && (areLayers (graphOf f) A B (λ e. getD l e 0) (length rings) && areRings (graphOf f) A B (λ e. getD l e 0) 1 rings)
+holds f A B (harmonic S T E) = isAccepted f && (isHarmonic (graphOf f) (members S) (members T) && isCounts (graphOf f) S T E)
 holds f A B (has n m) = isRefusal (fileRefusal f) none && (eqb (graphOf f .order) n && eqb (graphOf f .size) m)
 holds f A B (gives r) = isRefusal (fileRefusal f) r
 
@@ -353,6 +372,10 @@ holds-sound f A B (layers l rings) h =
     let (p, q) = both (areLayers (graphOf f) A B (λ e. getD l e 0) (length rings)) _ r in
     let (layer, each) = rings-sound k A B (λ e. getD l e 0) 1 rings q in
     record { accepted = o; layering = layering-sound k A B (λ e. getD l e 0) rings p layer; each = each }
+holds-sound f A B (harmonic S T E) h =
+    let (a, r) = both (isAccepted f) _ h in
+    let (p, q) = both (isHarmonic (graphOf f) (members S) (members T)) _ r in
+    record { accepted = accepted-sound f a .0; found = harmonic-sound (graphOf f) (members S) (members T) p; counts = counts-sound (graphOf f) S T E q }
 holds-sound f A B (has n m) h =
     let (a, r) = both (isRefusal (fileRefusal f) none) _ h in
     let (p, q) = both (eqb (graphOf f .order) n) _ r in

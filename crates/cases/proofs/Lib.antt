@@ -1,3 +1,4 @@
 pub mod Sweep
+pub mod Drops
 pub mod Compute
 pub mod Cases

@@ -10,6 +10,7 @@ use Rattle.graph.specs.Graph.{Graph, Group, everyone, card, edges}
 use Rattle.graph.specs.Core.{CoreInside, LevelInside, LevelAcrossInside, EqualLevelInside, FindingInside}
 use Rattle.graph.specs.Quiet.{OutcomeInside}
 use Rattle.graph.specs.Layers.{stillIn, LayeringInside}
+use Rattle.graph.specs.Harmonic.{Harmonic}
 use Rattle.network.specs.declared.Refusal.{Refusal}
 use Rattle.network.specs.File.{graphOf, none, plain, at, fileRefusal}
 use Rattle.network.specs.Bytes.{header, edgeBytes}
@@ -39,6 +40,8 @@ pub data Claim : Type 0 where
   finding : (x y k : ℕ) (S T : List ℕ) (E : ℕ) → Claim
   -- the links have the listed layers, 0 for none, which are these rings, one after the other
   layers : List ℕ → List Ring → Claim
+  -- the harmonic finder finds S and T, with E links between them
+  harmonic : (S T : List ℕ) (E : ℕ) → Claim
   -- the file is accepted, with n members and m links
   has : (n m : ℕ) → Claim
   -- the file's own bytes give this refusal, or none
@@ -76,13 +79,20 @@ pub record SaysLayers (f : List ℕ) (A B : Group) (layers : List ℕ) (rings : 
   pub layering : LayeringInside (graphOf f) A B (λ e. getD layers e 0) (length rings)
   pub each : Rings (graphOf f) A B (λ e. getD layers e 0) 1 rings
 
--- a claim on a file inside A and B, by the definitions; A and B do not count for its n and m or its refusal
+-- the file is accepted, and (S,T) is the pair that the harmonic finder finds in its network
+pub record SaysHarmonic (f : List ℕ) (S T : List ℕ) (E : ℕ) : Type 0 where
+  pub accepted : fileRefusal f ≡ none
+  pub found : Harmonic (graphOf f) (members S) (members T)
+  pub counts : Counts (graphOf f) S T E
+
+-- a claim on a file inside A and B, by the definitions; A and B do not count for the harmonic finder, for n and m or for the refusal
 abbrev pub Says : List ℕ → Group → Group → Claim → Type 0
 Says f A B (core x y S T E) = SaysCore f A B x y S T E
 Says f A B (level x y) = (fileRefusal f ≡ none) × LevelInside (graphOf f) A B x y
 Says f A B (across y x) = (fileRefusal f ≡ none) × LevelAcrossInside (graphOf f) A B y x
 Says f A B (finding x y k S T E) = SaysFinding f A B x y k S T E
 Says f A B (layers l rings) = SaysLayers f A B l rings
+Says f A B (harmonic S T E) = SaysHarmonic f S T E
 Says f A B (has n m) = (fileRefusal f ≡ none) × (graphOf f .order ≡ n) × (graphOf f .size ≡ m)
 Says f A B (gives r) = fileRefusal f ≡ r
 
@@ -101,6 +111,10 @@ W = header 6 8 ++ edgeBytes 0 3 ++ edgeBytes 0 4 ++ edgeBytes 1 3 ++ edgeBytes 1
 abbrev pub starAndRing : List ℕ
 starAndRing = header 9 8 ++ edgeBytes 0 4 ++ edgeBytes 1 4 ++ edgeBytes 2 4 ++ edgeBytes 3 4 ++ edgeBytes 5 7 ++ edgeBytes 5 8 ++ edgeBytes 6 7 ++ edgeBytes 6 8
 
+-- 02, wish 6: a star of five one-off vouchers, 1 to 5, round member 0, and a ring of two vouchers, 6 and 7, and two vouched members, 1 and 2
+abbrev pub oneOffs : List ℕ
+oneOffs = header 8 9 ++ edgeBytes 1 0 ++ edgeBytes 2 0 ++ edgeBytes 3 0 ++ edgeBytes 4 0 ++ edgeBytes 5 0 ++ edgeBytes 6 1 ++ edgeBytes 6 2 ++ edgeBytes 7 1 ++ edgeBytes 7 2
+
 -- one case of the table, among everyone
 abbrev pub says : List ℕ → Claim → Case
 says f c = record { file = f; sources = everyone; targets = everyone; claim = c }
@@ -109,7 +123,7 @@ says f c = record { file = f; sources = everyone; targets = everyone; claim = c 
 abbrev pub saysIn : List ℕ → List ℕ → List ℕ → Claim → Case
 saysIn f A B c = record { file = f; sources = members A; targets = members B; claim = c }
 
--- P1 to P9, W's report and W's layers, 02's example, some of these inside A and B, zero bytes, then the limits of a file
+-- P1 to P9, W's report and W's layers, 02's example, some of these inside A and B, the harmonic finder, zero bytes, then the limits of a file
 unfoldable pub cases : List Case
 cases =
     -- P1
@@ -171,6 +185,22 @@ cases =
     -- P9, by 02, wish 3: nothing is found, and there is no layer
     ∷ says (header 1 0) (finding 0 0 0 [] [] 0)
     ∷ says (header 1 0) (layers [] [])
+    -- the harmonic finder on W (02, wish 6)
+    ∷ says W (harmonic (0 ∷ 1 ∷ 2 ∷ []) (3 ∷ 4 ∷ []) 6)
+    -- the finding is the star, and the harmonic finder finds the ring
+    ∷ says oneOffs (finding 1 5 2 (1 ∷ 2 ∷ 3 ∷ 4 ∷ 5 ∷ []) (0 ∷ []) 5)
+    ∷ says oneOffs (harmonic (6 ∷ 7 ∷ []) (1 ∷ 2 ∷ []) 4)
+    -- a tie of sides goes to the voucher side: with the vouched side first, or the smaller member on either side, it is 0 and 1 with 0, 1 and 2
+    ∷ says (header 3 3 ++ edgeBytes 0 0 ++ edgeBytes 0 2 ++ edgeBytes 1 1) (harmonic (0 ∷ []) (0 ∷ 2 ∷ []) 2)
+    -- a tie of vouchers goes to the smaller member: with the larger first it is 0, 1 and 2 with 0 and 1
+    ∷ says (header 3 3 ++ edgeBytes 0 0 ++ edgeBytes 1 1 ++ edgeBytes 2 1) (harmonic (1 ∷ 2 ∷ []) (1 ∷ []) 2)
+    -- so does a tie of vouched members: with the larger first it is 0 and 1 with everyone
+    ∷ says (header 5 5 ++ edgeBytes 0 0 ++ edgeBytes 0 1 ++ edgeBytes 1 2 ++ edgeBytes 1 3 ++ edgeBytes 1 4) (harmonic (1 ∷ []) (2 ∷ 3 ∷ 4 ∷ []) 3)
+    -- of states with equal measure the earliest is kept, here the first, everyone: the latest is 0 with 0 and 1
+    ∷ says (header 3 4 ++ edgeBytes 0 0 ++ edgeBytes 0 1 ++ edgeBytes 1 2 ++ edgeBytes 2 2) (harmonic (0 ∷ 1 ∷ 2 ∷ []) (0 ∷ 1 ∷ 2 ∷ []) 4)
+    -- without links it finds empty groups, and so of zero bytes
+    ∷ says (header 1 0) (harmonic [] [] 0)
+    ∷ says [] (harmonic [] [] 0)
     -- zero bytes count as the version 1 file with n 0 and m 0; from 1 to 8 bytes 1 is given
     ∷ says [] (has 0 0)
     ∷ says [] (finding 0 0 0 [] [] 0)

@@ -17,6 +17,7 @@ pub use finding::FindingAnswer;
 pub use finding::Ring;
 pub use finding::equal_findings;
 pub use finding::finding;
+pub use harmonic::harmonic;
 pub use layering::LayersAnswer;
 pub use layering::layers;
 pub use network::Refusal;

@@ -36,7 +36,7 @@ abbrev pub checkNumbers : check.CheckAnswer → CheckNumbers
 checkNumbers (check.the-variants.Accepted n m) = record { refusal = 0; link = 0; n = n; m = m }
 checkNumbers (check.the-variants.Refused r) = record { refusal = r .number; link = r .link; n = 0; m = 0 }
 
--- of the count and of the core,
+-- of the count, of the core and of the harmonic finder,
 abbrev pub totalsNumbers : totals.TotalsAnswer → TotalsNumbers
 totalsNumbers (totals.the-variants.Counted c) = record { refusal = 0; link = 0; edges = c .edges; sources = c .sources; targets = c .targets }
 totalsNumbers (totals.the-variants.Refused r) = record { refusal = r .number; link = r .link; edges = 0; sources = 0; targets = 0 }

@@ -21,6 +21,7 @@ ghost use Rattle.adjacency.specs.Calls.{bySide, IndexCall};
 ghost use Rattle.cores.specs.Calls.{CoreCall, LevelCall, LevelAcrossCall, EqualLevelCall};
 ghost use Rattle.finding.specs.Findings.{FindingCall};
 ghost use Rattle.layering.specs.Calls.{LayersCall};
+ghost use Rattle.harmonic.specs.Calls.{HarmonicCall};
 ghost use Rattle.cogsplice_c.specs.Told.{Told, PartOf, sideOf, checkNumbers, totalsNumbers, writeNumbers, indexNumbers, levelNumbers, findingNumbers, layersNumbers};
 
 // The numbers of the check: n and m.
@@ -32,7 +33,7 @@ pub struct CheckNumbers {
     pub m: usize,
 }
 
-// The numbers of the count and of the core: E, |S| and |T|.
+// The numbers of the count, of the core and of the harmonic finder: E, |S| and |T|.
 #[repr(C)]
 pub struct TotalsNumbers {
     pub refusal: u16,
@@ -266,6 +267,18 @@ pub extern "C" fn cogsplice_layers(
     ensures { λ r. ⌜ Told (LayersCall (now (file .entry)) (now (a .entry)) (now (b .entry)) (now (layers .entry)) (now (layers .exit)) (now (work .entry)) (now (work .exit))) layersNumbers r ⌝ }
 {
     layers_numbers(cogsplice::layers(file, a, b, layers, work))
+}
+
+#[no_mangle]
+pub extern "C" fn cogsplice_harmonic(
+    file: &[u8],
+    s: &mut [u8],
+    t: &mut [u8],
+    work: &mut [u16],
+) -> TotalsNumbers
+    ensures { λ r. ⌜ Told (HarmonicCall (now (file .entry)) (now (s .entry)) (now (s .exit)) (now (t .entry)) (now (t .exit)) (now (work .entry)) (now (work .exit))) totalsNumbers r ⌝ }
+{
+    totals_numbers(cogsplice::harmonic(file, s, t, work))
 }
 
 #[no_mangle]

@@ -1,3 +1,4 @@
 pub mod Copying
 pub mod WayIn
 pub mod Told
+pub mod Everyone

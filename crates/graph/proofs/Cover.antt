@@ -1,23 +1,24 @@
 -- The double cover joins cores to peeling: a pair of groups is dense exactly when its places are settled, and the settled set that
 -- surrounds every settled set is the core.
 use Prim.Native.Nat.{ℕ, _+_, _-_, _*_, _<_, _≤_}
-use mathlib.Core.Bool.{Bool, true, false, _&&_, and-false}
+use mathlib.Core.Bool.{true, _&&_, and-false}
 use mathlib.Core.Logic.{_↔_}
 use mathlib.Core.Path.{_≡_, refl, sym, ap, _∙_}
 use native.Mathlib.Decide.{ℕ-discrete, decLt}
-use native.Mathlib.Nat.{add-comm, add-sub-cancel-left, add-left-cancel}
+use native.Mathlib.Nat.{add-comm, add-sub-cancel-left}
 use native.Mathlib.Omega.{arith}
-use borrow.Author.Tests.{lt-ltb, le-ltb, ne-eqb, eqb-true, eq-eqb}
+use borrow.Author.Tests.{lt-ltb, le-ltb, ne-eqb, eq-eqb}
 use lib.Dec.{eqb}
 use Rattle.graph.specs.Range.{sum, if}
-use Rattle.graph.specs.Graph.{Graph, Group, edges, outDegree, inDegree}
+use Rattle.graph.specs.Graph.{Graph, Group, card, edges, outDegree, inDegree}
 use Rattle.graph.specs.Shapes.{Closed, Same}
 use Rattle.graph.specs.Core.{Dense, Covers, Core}
 use Rattle.graph.specs.Linkage.{degree, Settled, Surrounds}
-use Rattle.graph.specs.Cover.{cover, joined, need, targets, places}
-use Rattle.graph.proofs.Tests.{test-ext}
+use Rattle.graph.specs.Places.{targets, linksTo}
+use Rattle.graph.specs.Cover.{cover, joined, need, places}
+use Rattle.graph.proofs.Tests.{if-add, eqb-shift}
 use Rattle.graph.proofs.Sums.{sum-ext, sum-add, sum-none}
-use Rattle.graph.proofs.Degrees.{only, without, edges-out, edges-in, edges-without, edges-without-in}
+use Rattle.graph.proofs.Degrees.{only, without, edges-out, edges-in, edges-without, edges-without-in, card-without}
 use Rattle.graph.proofs.Exists.{dense-same}
 
 -- the places of an edge are places of the cover
@@ -37,16 +38,12 @@ pub need-target : (n x y v : ℕ) → need n x y (n + v) ≡ y
 need-target n x y v = rw (le-ltb (n + v) n (omega arith))
 
 -- a place is joined to the places of R by the edges that leave it and those that reach it
-joined-degree : {g : Graph} → Closed g → (R : Group) (p : ℕ) → degree (joined g) (2 * g .order) R p ≡ outDegree (cover g) R p + inDegree (cover g) R p
+pub joined-degree : {g : Graph} → Closed g → (R : Group) (p : ℕ) → degree (joined g) (2 * g .order) R p ≡ outDegree (cover g) R p + inDegree (cover g) R p
 unfolding degree joined
 joined-degree {g} k R p =
     sum-ext (2 * g .order) (λ q l. if-add (R q) _ _)
     ∙ sum-add (λ q. if (R q) (edges (cover g) (only p) (only q))) (λ q. if (R q) (edges (cover g) (only q) (only p))) (2 * g .order)
     ∙ rw (← edges-in (closed-cover k) (only p) R, ← edges-out (closed-cover k) R (only p))
-  where
-    if-add : (b : Bool) (i j : ℕ) → if b (i + j) ≡ if b i + if b j
-    if-add true i j = refl
-    if-add false i j = refl
 
 -- two places are joined by the same edges either way
 pub joined-symmetric : (g : Graph) (p q : ℕ) → joined g p q ≡ joined g q p
@@ -83,16 +80,22 @@ degree-source {g} k R {u} l =
 pub degree-target : {g : Graph} → Closed g → (R : Group) (v : ℕ) → degree (joined g) (2 * g .order) R (g .order + v) ≡ inDegree g R v
 degree-target {g} k R v = omega (arith, joined-degree k R (g .order + v), none, same)
   where
-    same-target : (t : ℕ) → eqb (g .order + t) (g .order + v) ≡ eqb t v
-    same-target t = test-ext _ _ (λ h. eq-eqb t v (add-left-cancel (g .order) (eqb-true _ _ h))) (λ h. ap (λ i. eqb (g .order + i) (g .order + v)) (eqb-true t v h) ∙ eq-eqb (g .order + v) (g .order + v) refl)
-
     none : outDegree (cover g) R (g .order + v) ≡ 0
     none =
         sum-none (λ e. if (eqb (g .source e) (g .order + v) && R (g .order + g .target e)) (g .weight e)) (g .size) (λ e i.
         rw (ne-eqb (g .source e) (g .order + v) (λ q. omega (arith, k .source-below e i))))
 
     same : inDegree (cover g) R (g .order + v) ≡ inDegree g R v
-    same = sum-ext (g .size) (λ e i. rw (same-target (g .target e)))
+    same = sum-ext (g .size) (λ e i. rw (eqb-shift (g .order) (g .target e) v))
+
+-- so the links of a place to places of R are its degree
+pub links-degree : {g : Graph} → Closed g → (R : Group) (p : ℕ) → linksTo g R p ≡ degree (joined g) (2 * g .order) R p
+unfolding linksTo
+links-degree {g} k R p =
+    elim (decLt p (g .order)) [
+      | yes l ↦ rw (lt-ltb p (g .order) l) (sym (degree-source k R l))
+      | no l ↦ rw (le-ltb p (g .order) (omega arith)) (sym (degree-target k R (p - g .order)) ∙ ap (degree (joined g) (2 * g .order) R) (omega arith))
+    ]
 
 -- the places of a pair hold its sources
 pub places-source : (g : Graph) (S T : Group) → Same g S (places g S T)
@@ -162,3 +165,16 @@ edges-drop {g} k R p l h =
       no-loop k p,
       joined-degree k R p,
     )
+
+-- a source that is dropped is one source less, and no target
+pub drop-source : (g : Graph) (R : Group) (u : ℕ) → u < g .order → R u ≡ true
+    → (card g R ≡ card g (without R u) + 1) × (card g (targets g (without R u)) ≡ card g (targets g R))
+drop-source g R u l h = (card-without g R u l h, sum-ext (g .order) (λ v k. rw (ne-eqb (g .order + v) u (λ e. omega arith))))
+
+-- a target that is dropped is one target less, and no source
+pub drop-target : (g : Graph) (R : Group) (v : ℕ) → v < g .order → R (g .order + v) ≡ true
+    → (card g (without R (g .order + v)) ≡ card g R) × (card g (targets g R) ≡ card g (targets g (without R (g .order + v))) + 1)
+drop-target g R v l h = (
+  sum-ext (g .order) (λ u k. rw (ne-eqb u (g .order + v) (λ e. omega arith))),
+  card-without g (targets g R) v l h ∙ ap (_+ 1) (sum-ext (g .order) (λ u k. rw (eqb-shift (g .order) u v))),
+)

@@ -7,7 +7,7 @@ use native.Mathlib.Omega.{arith}
 use borrow.Author.Tests.{ne-eqb, eqb-true}
 use lib.Dec.{eqb}
 use Rattle.graph.specs.Range.{sum, if}
-use Rattle.graph.specs.Graph.{Graph, reverse, Group, card, edges, outDegree, inDegree}
+use Rattle.graph.specs.Graph.{Graph, reverse, Group, everyone, card, edges, outDegree, inDegree}
 use Rattle.graph.specs.Shapes.{Closed, Same}
 use Rattle.graph.specs.Core.{Inside}
 use Rattle.graph.proofs.Tests.{and-left, and-right, and-both, if-comm, if-mono, if-some, if-turn, if-split, eqb-sym}
@@ -35,6 +35,10 @@ edges-mono {g} k {S} {S′} {T} {T′} p q =
     sum-mono (g .size) (λ e l.
     if-mono {a = S (g .source e) && T (g .target e)} (g .weight e) (λ h.
     and-both (p _ (k .source-below e l) (and-left _ (T (g .target e)) h)) (q _ (k .target-below e l) (and-right (S (g .source e)) _ h))))
+
+-- no two groups have more edges between them than everyone
+pub edges-everyone : {g : Graph} → Closed g → (S T : Group) → edges g S T ≤ edges g everyone everyone
+edges-everyone k S T = edges-mono k {S = S} {S′ = everyone} {T = T} {T′ = everyone} (λ u l h. refl) (λ v l h. refl)
 
 -- a larger group has more vertices
 pub card-mono : (g : Graph) {S S′ : Group} → Inside g S S′ → card g S ≤ card g S′

@@ -27,3 +27,6 @@ pub mod Cover
 pub mod Stars
 pub mod Starts
 pub mod Ascending
+pub mod Unbeaten
+pub mod Harmonic
+pub mod Keys

@@ -55,6 +55,12 @@ first-is p n k l none some =
     (elim (decLe (suc k) n) [ yes h ↦ first-least p n k (some h) | no h ↦ omega (arith, first-le p n) ])
     (elim (decLe k (first p n)) [ yes h ↦ h | no h ↦ absurd (false≢true (sym (none _ (omega arith)) ∙ first-passes p n (omega arith))) ])
 
+-- equal tests pass first at the same number
+pub first-ext : (p q : ℕ → Bool) (n : ℕ) → ((i : ℕ) → i < n → p i ≡ q i) → first p n ≡ first q n
+unfolding first
+first-ext p q zero e = refl
+first-ext p q (suc n) e = rw (e 0 (omega arith), first-ext (λ i. p (suc i)) (λ i. q (suc i)) n (λ i l. e (suc i) (omega arith)))
+
 -- so it is n where none passes
 pub first-none : (p : ℕ → Bool) (n : ℕ) → ((i : ℕ) → i < n → p i ≡ false) → first p n ≡ n
 first-none p n none = first-is p n n (le-refl n) none (λ l. absurd (omega arith))

@@ -2,11 +2,11 @@
 use Prim.Native.Nat.{ℕ, _+_, _≤_}
 use mathlib.Core.Bool.{Bool, true, false, not, _&&_, false≢true}
 use mathlib.Core.Logic.{_≢_}
-use mathlib.Core.Path.{_≡_, refl, sym, _∙_}
+use mathlib.Core.Path.{_≡_, refl, sym, ap, _∙_}
 use native.Mathlib.Decide.{ℕ-discrete}
-use native.Mathlib.Nat.{le-refl}
+use native.Mathlib.Nat.{le-refl, add-left-cancel}
 use native.Mathlib.Omega.{arith}
-use borrow.Author.Tests.{eq-eqb, ne-eqb}
+use borrow.Author.Tests.{eq-eqb, ne-eqb, eqb-true}
 use lib.Dec.{eqb}
 use Rattle.graph.specs.Range.{if}
 
@@ -63,6 +63,15 @@ if-turn false false b w = refl
 pub if-split : (q s : Bool) (w : ℕ) → (q ≡ true → s ≡ true) → if s w ≡ if (not q && s) w + if q w
 if-split true s w f = rw (f refl) (omega arith)
 if-split false s w f = omega arith
+
+-- equality of numbers that are moved by the same is that of the numbers
+pub eqb-shift : (n a b : ℕ) → eqb (n + a) (n + b) ≡ eqb a b
+eqb-shift n a b = test-ext _ _ (λ h. eq-eqb a b (add-left-cancel n (eqb-true _ _ h))) (λ h. eq-eqb (n + a) (n + b) (ap (n +_) (eqb-true a b h)))
+
+-- a test before a sum of two goes before each
+pub if-add : (b : Bool) (i j : ℕ) → if b (i + j) ≡ if b i + if b j
+if-add true i j = refl
+if-add false i j = refl
 
 -- a test for one number counts there
 pub if-same : (k i w : ℕ) → k ≡ i → if (eqb k i) w ≡ w

@@ -2,24 +2,19 @@
 use Prim.Native.Nat.{ℕ, _<_, _≤_}
 use mathlib.Core.Bool.{true}
 use mathlib.Core.Logic.{_↔_}
-use mathlib.Core.Path.{refl}
 use native.Mathlib.Nat.{le-trans}
 use Rattle.graph.specs.Graph.{Graph, Group, edges}
 use Rattle.graph.specs.Shapes.{Closed, total}
 use Rattle.graph.specs.Core.{NonemptyInside, Nonempty}
 use Rattle.graph.proofs.Sums.{sum-some, term-le-sum}
-use Rattle.graph.proofs.Degrees.{closed-reverse, only, edges-mono, card-some}
+use Rattle.graph.proofs.Degrees.{closed-reverse, only, edges-everyone, card-some}
 use Rattle.graph.proofs.Exists.{nonempty-nested, nonempty-reverse}
 use Rattle.graph.proofs.Within.{closed-within, nonempty-within}
 use Rattle.graph.proofs.Density.{bounded}
 
--- no two groups have more links between them than there are
-edges-total : {g : Graph} → Closed g → (S T : Group) → edges g S T ≤ total g
-edges-total k S T = edges-mono k {S = S} {S′ = λ u. true} {T = T} {T′ = λ v. true} (λ u l h. refl) (λ v l h. refl)
-
 -- x is at most the whole weight
 pub nonempty-x : {g : Graph} → Closed g → {A B : Group} {x y : ℕ} → NonemptyInside g A B x y → x ≤ total g
-nonempty-x {g} k n = let (u, l, s) = card-some g (n .S) (n .some) in le-trans (n .core .dense .out u l s) (edges-total k (only u) (n .T))
+nonempty-x {g} k n = let (u, l, s) = card-some g (n .S) (n .some) in le-trans (n .core .dense .out u l s) (edges-everyone k (only u) (n .T))
 
 -- and so is y
 pub nonempty-y : {g : Graph} → Closed g → {A B : Group} {x y : ℕ} → NonemptyInside g A B x y → y ≤ total g

@@ -16,10 +16,6 @@ joined g p q = edges (cover g) (λ r. eqb r p) (λ r. eqb r q) + edges (cover g)
 abbrev pub need : ℕ → ℕ → ℕ → ℕ → ℕ
 need n x y p = cond (ltb p n) x y
 
--- the vertices that stand in R as targets; those that stand in it as sources are R itself
-abbrev pub targets : Graph → Group → Group
-targets g R v = R (g .order + v)
-
 -- the places of a pair of groups
 abbrev pub places : Graph → Group → Group → Group
 places g S T p = cond (ltb p (g .order)) (S p) (T (p - g .order))

@@ -3,6 +3,8 @@ pub mod Graph
 pub mod Core
 pub mod Quiet
 pub mod Layers
+pub mod Places
+pub mod Harmonic
 pub mod Within
 pub mod Order
 pub mod Shapes
@@ -11,3 +13,4 @@ pub mod Search
 pub mod Linkage
 pub mod Cover
 pub mod Layered
+pub mod Drops

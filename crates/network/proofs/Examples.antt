@@ -7,7 +7,7 @@ use Rattle.graph.specs.Graph.{reverse}
 use Rattle.graph.specs.Order.{rankBy, nthBy, starts, rows}
 use Rattle.network.specs.declared.Refusal.{Refusal}
 use Rattle.network.specs.File.{graphOf, none, plain, at, fileRefusal}
-use Rattle.network.specs.Refusals.{indexRefusal, rowRefusal, countRefusal, coreRefusal, levelRefusal, equalLevelRefusal, layersRefusal, writeRefusal}
+use Rattle.network.specs.Refusals.{indexRefusal, rowRefusal, countRefusal, coreRefusal, levelRefusal, equalLevelRefusal, layersRefusal, harmonicRefusal, writeRefusal}
 use Rattle.network.specs.Bytes.{written}
 
 -- the bytes of links between members below 256
@@ -146,6 +146,11 @@ calls =
     ∷ record { given = layersRefusal (small 1 0 []) (1 ∷ []) (1 ∷ []) 0 7; expected = plain 9 }
     ∷ record { given = layersRefusal (small 1 0 []) (1 ∷ []) (1 ∷ []) 0 8; expected = none }
     ∷ record { given = layersRefusal W six six 8 54; expected = none }
+    ∷ record { given = harmonicRefusal (0 ∷ []) 0 0 0; expected = plain 1 }
+    ∷ record { given = harmonicRefusal W 5 6 54; expected = plain 9 }
+    ∷ record { given = harmonicRefusal W 6 5 54; expected = plain 9 }
+    ∷ record { given = harmonicRefusal W 6 6 53; expected = plain 9 }
+    ∷ record { given = harmonicRefusal W 6 6 54; expected = none }
     ∷ record { given = writeRefusal (0 ∷ []) 0; expected = plain 1 }
     ∷ record { given = writeRefusal W 40; expected = plain 9 }
     ∷ record { given = writeRefusal W 41; expected = none }
@@ -155,11 +160,13 @@ calls =
     ∷ record { given = coreRefusal [] [] [] 0 0 2; expected = none }
     ∷ record { given = layersRefusal [] [] [] 0 1; expected = plain 9 }
     ∷ record { given = layersRefusal [] [] [] 0 2; expected = none }
+    ∷ record { given = harmonicRefusal [] 0 0 1; expected = plain 9 }
+    ∷ record { given = harmonicRefusal [] 0 0 2; expected = none }
     ∷ record { given = writeRefusal [] 8; expected = plain 9 }
     ∷ record { given = writeRefusal [] 9; expected = none }
     ∷ []
 
 -- each gives what it is to
 pub call-refusals : map (λ c. c .given) calls ≡ map (λ c. c .expected) calls
-unfolding first fileRefusal indexRefusal rowRefusal countRefusal coreRefusal levelRefusal equalLevelRefusal layersRefusal writeRefusal
+unfolding first fileRefusal indexRefusal rowRefusal countRefusal coreRefusal levelRefusal equalLevelRefusal layersRefusal harmonicRefusal writeRefusal
 call-refusals = refl

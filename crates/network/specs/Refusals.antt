@@ -24,7 +24,7 @@ shortGroups n s t = ltb (length s) n || ltb (length t) n
 abbrev pub inGroups : ℕ → List ℕ → List ℕ → Refusal → Refusal
 inGroups n s t later = cond (not (isGroup n s && isGroup n t)) (plain 11) later
 
--- 01: the length of the work table of core, level, equal level, finding and layers, for n members and m links
+-- 01: the length of the work table of core, level, equal level, finding, layers and harmonic finder, for n members and m links
 abbrev pub workLength : ℕ → ℕ → ℕ
 workLength n m = 2 * m + 6 * n + 2
 
@@ -54,6 +54,12 @@ coreRefusal f a b s t w =
     let g = graphOf f in
     inOrder f (shortGroups (g .order) a b || ltb s (g .order) || ltb t (g .order) || ltb w (workLength (g .order) (g .size)))
     (inGroups (g .order) a b none)
+
+-- the file, and the lengths of the two groups and of the work table: of the harmonic finder
+unfoldable pub harmonicRefusal : List ℕ → ℕ → ℕ → ℕ → Refusal
+harmonicRefusal f s t w =
+    let g = graphOf f in
+    inOrder f (ltb s (g .order) || ltb t (g .order) || ltb w (workLength (g .order) (g .size))) none
 
 -- the file, A and B, x or y, and the length of the work table: of level and of level across
 unfoldable pub levelRefusal : List ℕ → List ℕ → List ℕ → ℕ → ℕ → Refusal

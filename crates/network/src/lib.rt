@@ -23,7 +23,7 @@ pub struct Totals {
     pub targets: usize,
 }
 
-// What the count and the core answer: E, |S| and |T|, or the refusal.
+// What the count, the core and the harmonic finder answer: E, |S| and |T|, or the refusal.
 pub enum TotalsAnswer {
     Counted(Totals),
     Refused(Refusal),

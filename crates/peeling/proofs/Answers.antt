@@ -11,7 +11,8 @@ use lib.ListN.{drop}
 use Rattle.graph.specs.Graph.{Graph, Group, card, edges}
 use Rattle.graph.specs.Core.{Core}
 use Rattle.graph.specs.Shapes.{Same}
-use Rattle.graph.specs.Cover.{need, targets}
+use Rattle.graph.specs.Places.{targets}
+use Rattle.graph.specs.Cover.{need}
 use Rattle.graph.proofs.Sums.{sum-ext}
 use Rattle.graph.proofs.Degrees.{edges-same}
 use Rattle.graph.proofs.Exists.{core-same}

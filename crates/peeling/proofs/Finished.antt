@@ -10,7 +10,8 @@ use Rattle.graph.specs.Graph.{Graph, Group}
 use Rattle.graph.specs.Shapes.{Closed}
 use Rattle.graph.specs.Core.{Core, Nonempty}
 use Rattle.graph.specs.Linkage.{degree, Settled, Surrounds}
-use Rattle.graph.specs.Cover.{joined, need, targets}
+use Rattle.graph.specs.Places.{targets}
+use Rattle.graph.specs.Cover.{joined, need}
 use Rattle.graph.proofs.Degrees.{card-mono}
 use Rattle.graph.proofs.Links.{degree-links, surrounds-links}
 use Rattle.graph.proofs.Cover.{surrounds-covers, settled-core, need-source, need-target}

@@ -8,7 +8,8 @@ use native.Mathlib.Numerals.{add-one}
 use native.Mathlib.Omega.{arith}
 use Rattle.graph.specs.Graph.{Graph, Group, edges}
 use Rattle.graph.specs.Linkage.{degree}
-use Rattle.graph.specs.Cover.{joined, targets}
+use Rattle.graph.specs.Places.{targets}
+use Rattle.graph.specs.Cover.{joined}
 use Rattle.graph.proofs.Degrees.{without, edges-same}
 use Rattle.graph.proofs.Links.{degree-links}
 use Rattle.graph.proofs.Cover.{edges-drop}

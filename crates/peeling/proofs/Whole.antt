@@ -11,7 +11,8 @@ use lib.Dec.{eqb, ltb}
 use Rattle.graph.specs.Range.{if}
 use Rattle.graph.specs.Linkage.{degree}
 use Rattle.graph.specs.Graph.{Graph, edges}
-use Rattle.graph.specs.Cover.{need, targets}
+use Rattle.graph.specs.Places.{targets}
+use Rattle.graph.specs.Cover.{need}
 use Rattle.graph.proofs.Sums.{sum-ext, sum-swap, sum-pick, sum-ones, below-suc}
 use Rattle.graph.proofs.Monotone.{sum-steps}
 use Rattle.graph.proofs.Linkage.{surrounds-all}

@@ -9,7 +9,8 @@ use Rattle.graph.specs.Range.{sum, if}
 use Rattle.graph.specs.Graph.{Graph, Group, edges}
 use Rattle.graph.specs.Shapes.{Closed}
 use Rattle.graph.specs.Linkage.{degree, Surrounds}
-use Rattle.graph.specs.Cover.{joined, need, targets}
+use Rattle.graph.specs.Places.{targets}
+use Rattle.graph.specs.Cover.{joined, need}
 use Rattle.network.specs.File.{mostMembers, mostLinks}
 use Rattle.network.specs.Refusals.{workLength}
 use Rattle.peeling.specs.declared.Peel.{Peel}

@@ -23,4 +23,5 @@ pub struct Scope {
 }
 
 pub use groups::core_in;
+pub use groups::write_group;
 pub use peels::degrees_at;

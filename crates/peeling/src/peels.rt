@@ -100,6 +100,7 @@ impl Peel {
         requires { ⌜ Small (scope .order) (scope .size) ⌝ }
         requires { ⌜ Held (scope .order) (scope .size) (now work) ⌝ }
         ensures { λ r. ⌜ Peeling (scope .order) (scope .size) (cover.need (scope .order) 0 0) (now (work .exit)) r ⌝ }
+        ensures { λ r. ⌜ r .head ≡ 0 ⌝ }
         ensures { λ _. ⌜ Kept (scope .order) (scope .size) (now (work .entry)) (now (work .exit)) ⌝ }
     {
         fill_degrees(work, scope);

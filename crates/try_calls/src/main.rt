@@ -83,6 +83,17 @@ fn try_layers(file: &[u8]) {
     }
 }
 
+// How many the harmonic finder finds.
+fn try_harmonic(file: &[u8]) {
+    let mut s = [0u8; 6];
+    let mut t = [0u8; 6];
+    let mut work = [0u16; 54];
+    match cogsplice::harmonic(file, &mut s, &mut t, &mut work) {
+        TotalsAnswer::Counted(totals) => say(b"harmonic", totals.sources, totals.targets),
+        TotalsAnswer::Refused(refusal) => say_refused(refusal.number, refusal.link),
+    }
+}
+
 fn main() {
     let w =
         b"VCH\x01\x00\x06\x00\x08\x00\x00\x00\x03\x00\x00\x00\x04\x00\x01\x00\x03\x00\x01\x00\x04\x00\x02\x00\x03\x00\x02\x00\x04\x00\x04\x00\x05\x00\x05\x00\x05\x00";
@@ -91,7 +102,9 @@ fn main() {
     try_row(w);
     try_finding(w);
     try_layers(w);
+    try_harmonic(w);
     try_check(b"");
     try_finding(b"");
     try_layers(b"");
+    try_harmonic(b"");
 }

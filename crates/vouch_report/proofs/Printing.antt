@@ -1,18 +1,13 @@
 -- From the finding call to what is printed: the program's tables are as long as the largest file needs, so that 9 is never given, and hold
 -- everyone, so that 11 is not either; and the answer tells the refusal or what is found among everyone.
 use Prim.Native.Nat.{ℕ, _≤_}
-use mathlib.Core.Bool.{true}
 use mathlib.Core.List.{List}
 use mathlib.Core.Path.{_≡_, sym, ap, _∙_}
 use native.Mathlib.Decide.{decLe}
 use native.Mathlib.Omega.{arith}
-use borrow.Author.Tests.{eq-eqb}
-use lib.Dec.{ltb}
-use lib.ListN.{length, getD, replicate, getD-replicate, length-replicate}
-use Rattle.graph.proofs.Ranges.{first-none}
+use lib.ListN.{length, length-replicate}
 use Rattle.network.specs.declared.Refusal.{Refusal}
 use Rattle.network.specs.File.{mostMembers, mostLinks, graphOf, none, fileRefusal}
-use Rattle.network.specs.Groups.{isGroup, AllIn}
 use Rattle.network.specs.Refusals.{workLength, coreRefusal}
 use Rattle.network.specs.Accepted.{Sound}
 use Rattle.network.specs.Calls.{refused, accepted}
@@ -20,6 +15,7 @@ use Rattle.network.proofs.Accepted.{file-proper}
 use Rattle.network.proofs.Accepted as file
 use Rattle.network.proofs.Answers.{refusal-some, orElse-first}
 use Rattle.cores.proofs.WayIn.{core-none}
+use Rattle.cores.proofs.Everyone.{ones, ones-all, ones-group}
 use Rattle.finding.specs.declared.Ring.{Ring}
 use Rattle.finding.specs.declared.FindingAnswer.{FindingAnswer}
 use Rattle.finding.specs.declared.FindingAnswer.the-variants.{Found, Refused}
@@ -27,18 +23,6 @@ use Rattle.finding.specs.Findings.{FindingTold, FindingCall}
 use Rattle.report.specs.Text.{refusalText, reportText, Begins}
 use Rattle.vouch_report.specs.Printed.{Rendered}
 use Rattle.vouch_report.specs.Parts.{refusalOf, numbersOf}
-
--- the group of everyone, in the largest file and so in every one
-abbrev pub ones : List ℕ
-ones = replicate mostMembers 1
-
--- each of its bytes is 1,
-ones-all : (n : ℕ) → n ≤ mostMembers → AllIn n ones
-ones-all n h u l = getD-replicate mostMembers u 1 0 (omega arith)
-
--- so that it is a group
-ones-group : (n : ℕ) → n ≤ mostMembers → isGroup n ones ≡ true
-ones-group n h = eq-eqb _ _ (first-none (λ u. ltb 1 (getD ones u 0)) n (λ u l. rw (ones-all n h u l)))
 
 -- tables for the largest file are long enough for every file, so that the finding among everyone is refused as the file is
 finding-full : (f : List ℕ) → coreRefusal f ones ones mostMembers mostMembers (workLength mostMembers mostLinks) ≡ fileRefusal f

@@ -132,6 +132,10 @@ extern "C" {
         file: *const u8, file_length: usize, a: *const u8, a_length: usize, b: *const u8, b_length: usize,
         layers: *mut u16, layers_length: usize, work: *mut u16, work_length: usize,
     ) -> LayersNumbers;
+    fn cogsplice_harmonic(
+        file: *const u8, file_length: usize,
+        s: *mut u8, s_length: usize, t: *mut u8, t_length: usize, work: *mut u16, work_length: usize,
+    ) -> TotalsNumbers;
     fn cogsplice_equal_findings(x: usize, y: usize, a: usize, b: usize) -> bool;
 }
 
@@ -254,6 +258,17 @@ pub fn layers(file: &[u8], a: &[u8], b: &[u8], layers: &mut [u16], work: &mut [u
         cogsplice_layers(
             file.as_ptr(), file.len(), a.as_ptr(), a.len(), b.as_ptr(), b.len(),
             layers.as_mut_ptr(), layers.len(), work.as_mut_ptr(), work.len(),
+        )
+    }
+}
+
+/// Writes the pair of the harmonic measure among everyone; zeros and empty groups where the file has no link.
+#[rustfmt::skip]
+pub fn harmonic(file: &[u8], s: &mut [u8], t: &mut [u8], work: &mut [u16]) -> TotalsNumbers {
+    unsafe {
+        cogsplice_harmonic(
+            file.as_ptr(), file.len(),
+            s.as_mut_ptr(), s.len(), t.as_mut_ptr(), t.len(), work.as_mut_ptr(), work.len(),
         )
     }
 }

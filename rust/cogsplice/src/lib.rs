@@ -1,9 +1,9 @@
 //! Dense rings in a network of members who vouch for members, found by a proved library.
 //!
 //! A [`Network`] holds an accepted network file. Its calls own the tables that the library works on, and answer with groups as
-//! vectors of members, or with a typed [`Refusal`]. [`Network::within`] has the same calls among some members only. That the answers are
-//! right is proved in the library itself, which is linked as a static library; this crate only hands numbers and tables across. [`lent`]
-//! has the calls as they are, over tables of the caller's.
+//! vectors of members, or with a typed [`Refusal`]. [`Network::within`] has cores, levels, the finding and the layers among some members
+//! only. That the answers are right is proved in the library itself, which is linked as a static library; this crate only hands numbers and
+//! tables across. [`lent`] has the calls as they are, over tables of the caller's.
 //!
 //! ```
 //! use cogsplice::Network;
@@ -17,6 +17,7 @@
 //! let layers = network.layers();
 //! assert_eq!(layers.count(), 2);
 //! assert_eq!(layers.links(2).collect::<Vec<_>>(), [(4, 5), (5, 5)]);
+//! assert_eq!(network.harmonic(), finding.pair);
 //! # Ok(())
 //! # }
 //! ```

@@ -1,4 +1,4 @@
-use crate::{file_length, lent, Layers, Refusal, Side, Within};
+use crate::{file_length, lent, work_length, Layers, Refusal, Side, Within};
 use std::fmt;
 
 /// A network file that was accepted.
@@ -23,6 +23,34 @@ pub struct Pair {
     pub s: Vec<usize>,
     pub t: Vec<usize>,
     pub edges: u32,
+}
+
+impl Pair {
+    /// The pair of two groups as tables of bytes.
+    pub(crate) fn of(s: &[u8], t: &[u8], edges: u32) -> Pair {
+        let members_of = |group: &[u8]| (0..group.len()).filter(|&member| group[member] == 1).collect();
+        Pair {
+            s: members_of(s),
+            t: members_of(t),
+            edges,
+        }
+    }
+}
+
+/// Three lines, without the end of the last: the links and the sizes of both groups, then the members of S and of T.
+///
+/// ```
+/// let star = cogsplice::Network::from_links(4, &[(0, 1), (0, 2), (0, 3)]).unwrap();
+/// assert_eq!(star.core(2, 1).to_string(), "links 3 vouchers 1 vouched 3\nS 0\nT 1 2 3");
+/// ```
+impl fmt::Display for Pair {
+    fn fmt(&self, f: &mut fmt::Formatter<'_>) -> fmt::Result {
+        let Pair { s, t, edges } = self;
+        writeln!(f, "links {edges} vouchers {} vouched {}", s.len(), t.len())?;
+        write_group(f, "S", s)?;
+        writeln!(f)?;
+        write_group(f, "T", t)
+    }
 }
 
 /// The non-empty `[x,y]`-core with the greatest `x * y`; among equal products the smallest difference between `x` and `y` comes first, then
@@ -62,12 +90,8 @@ impl Finding {
 /// ```
 impl fmt::Display for Finding {
     fn fmt(&self, f: &mut fmt::Formatter<'_>) -> fmt::Result {
-        let Pair { s, t, edges } = &self.pair;
         writeln!(f, "x {} y {} equal {}", self.x, self.y, self.equal_level)?;
-        writeln!(f, "links {edges} vouchers {} vouched {}", s.len(), t.len())?;
-        write_group(f, "S", s)?;
-        writeln!(f)?;
-        write_group(f, "T", t)
+        write!(f, "{}", self.pair)
     }
 }
 
@@ -305,8 +329,31 @@ impl Network {
         self.everyone().layers()
     }
 
-    /// The same calls among some members only: S lies in A and T in B, two groups given by their members in any order. Refused by 10 where
-    /// a member is not below n.
+    /// The pair of the harmonic measure, `2 * E(S,T) / (|S| + |T|)`; empty groups where the network has no link.
+    ///
+    /// From everyone in both groups the place, a side and a member, with the fewest links to places not yet dropped is dropped, again and
+    /// again; ties go to the voucher side, then to the smaller member. Of the pairs met so, but for the last, of which both groups are
+    /// empty, this is the earliest with the greatest measure. No pair of non-empty groups has more than twice its measure.
+    ///
+    /// ```
+    /// use cogsplice::Network;
+    /// // A member with five one-off links, and a ring of four links: the finding is the star, this the ring.
+    /// let links = [(0, 1), (0, 2), (0, 3), (0, 4), (0, 5), (6, 8), (6, 9), (7, 8), (7, 9)];
+    /// let network = Network::from_links(10, &links).unwrap();
+    /// assert_eq!(network.finding().pair.s, [0]);
+    /// let ring = network.harmonic();
+    /// assert_eq!((ring.s, ring.t, ring.edges), (vec![6, 7], vec![8, 9], 4));
+    /// assert!(Network::from_links(4, &[]).unwrap().harmonic().s.is_empty());
+    /// ```
+    pub fn harmonic(&self) -> Pair {
+        let (mut s, mut t, mut work) = self.tables();
+        let numbers = lent::harmonic(&self.file, &mut s, &mut t, &mut work);
+        accepted(numbers.refusal);
+        Pair::of(&s, &t, numbers.edges)
+    }
+
+    /// Cores, levels, the finding and the layers among some members only: S lies in A and T in B, two groups given by their members in any
+    /// order. Refused by 10 where a member is not below n.
     ///
     /// ```
     /// use cogsplice::{Network, Refusal};
@@ -328,6 +375,16 @@ impl Network {
     /// With everyone in both groups the whole network is searched.
     fn everyone(&self) -> Within<'_> {
         Within::new(self, vec![1; self.members], vec![1; self.members])
+    }
+
+    /// A work table.
+    pub(crate) fn work(&self) -> Vec<u16> {
+        vec![0; work_length(self.members, self.links)]
+    }
+
+    /// Two groups to write to, and a work table.
+    pub(crate) fn tables(&self) -> (Vec<u8>, Vec<u8>, Vec<u16>) {
+        (vec![0; self.members], vec![0; self.members], self.work())
     }
 
     fn group(&self, members: &[usize]) -> Result<Vec<u8>, Refusal> {

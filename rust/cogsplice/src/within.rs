@@ -1,5 +1,5 @@
 use crate::network::accepted;
-use crate::{lent, work_length, Finding, Layers, Network, Pair, Refusal};
+use crate::{lent, Finding, Layers, Network, Pair, Refusal};
 
 /// A network, searched only among some members: S lies in A and T in B. Made by [`Network::within`].
 ///
@@ -30,10 +30,10 @@ impl<'a> Within<'a> {
     /// assert!(region.core(3, 1).s.is_empty());
     /// ```
     pub fn core(&self, x: u16, y: u16) -> Pair {
-        let (mut s, mut t, mut work) = self.tables();
+        let (mut s, mut t, mut work) = self.network.tables();
         let numbers = lent::core(self.network.file(), &self.a, &self.b, x, y, &mut s, &mut t, &mut work);
         accepted(numbers.refusal);
-        pair_of(&s, &t, numbers.edges)
+        Pair::of(&s, &t, numbers.edges)
     }
 
     /// The level of `x`: the largest `y` of at least 1 with a non-empty `[x,y]`-core inside A and B, or 0. Refused by 12 where `x` is 0.
@@ -46,7 +46,8 @@ impl<'a> Within<'a> {
     /// assert_eq!(region.level(0), Err(cogsplice::Refusal::Zero));
     /// ```
     pub fn level(&self, x: u16) -> Result<usize, Refusal> {
-        level_of(lent::level(self.network.file(), &self.a, &self.b, x, &mut self.work()))
+        let mut work = self.network.work();
+        level_of(lent::level(self.network.file(), &self.a, &self.b, x, &mut work))
     }
 
     /// The level across, for `y`: the largest `x` of at least 1 with a non-empty `[x,y]`-core inside A and B, or 0. Refused by 12 where `y`
@@ -57,7 +58,8 @@ impl<'a> Within<'a> {
     /// assert_eq!(star.within(&[0, 3], &[1, 2]).unwrap().level_across(1), Ok(2));
     /// ```
     pub fn level_across(&self, y: u16) -> Result<usize, Refusal> {
-        level_of(lent::level_across(self.network.file(), &self.a, &self.b, y, &mut self.work()))
+        let mut work = self.network.work();
+        level_of(lent::level_across(self.network.file(), &self.a, &self.b, y, &mut work))
     }
 
     /// The equal level: the largest `k` with a non-empty `[k,k]`-core inside A and B, or 0.
@@ -68,7 +70,7 @@ impl<'a> Within<'a> {
     /// assert_eq!(star.within(&[1, 3], &[1, 2]).unwrap().equal_level(), 0);
     /// ```
     pub fn equal_level(&self) -> usize {
-        let numbers = lent::equal_level(self.network.file(), &self.a, &self.b, &mut self.work());
+        let numbers = lent::equal_level(self.network.file(), &self.a, &self.b, &mut self.network.work());
         accepted(numbers.refusal);
         numbers.level
     }
@@ -86,14 +88,14 @@ impl<'a> Within<'a> {
     /// assert!(network.within(&[0, 1], &[7]).unwrap().finding().is_quiet());
     /// ```
     pub fn finding(&self) -> Finding {
-        let (mut s, mut t, mut work) = self.tables();
+        let (mut s, mut t, mut work) = self.network.tables();
         let numbers = lent::finding(self.network.file(), &self.a, &self.b, &mut s, &mut t, &mut work);
         accepted(numbers.refusal);
         Finding {
             x: numbers.x,
             y: numbers.y,
             equal_level: numbers.equal,
-            pair: pair_of(&s, &t, numbers.edges),
+            pair: Pair::of(&s, &t, numbers.edges),
         }
     }
 
@@ -110,7 +112,7 @@ impl<'a> Within<'a> {
     pub fn layers(&self) -> Layers {
         let links: Vec<(usize, usize)> = self.network.links().collect();
         let mut of_links = vec![0; links.len()];
-        let numbers = lent::layers(self.network.file(), &self.a, &self.b, &mut of_links, &mut self.work());
+        let numbers = lent::layers(self.network.file(), &self.a, &self.b, &mut of_links, &mut self.network.work());
         accepted(numbers.refusal);
         Layers {
             count: numbers.layers,
@@ -118,27 +120,9 @@ impl<'a> Within<'a> {
             of_links,
         }
     }
-
-    fn work(&self) -> Vec<u16> {
-        vec![0; work_length(self.network.members(), self.network.links().count())]
-    }
-
-    fn tables(&self) -> (Vec<u8>, Vec<u8>, Vec<u16>) {
-        let group = || vec![0; self.network.members()];
-        (group(), group(), self.work())
-    }
 }
 
 fn level_of(numbers: lent::LevelNumbers) -> Result<usize, Refusal> {
     Refusal::of(numbers.refusal, numbers.link)?;
     Ok(numbers.level)
-}
-
-fn pair_of(s: &[u8], t: &[u8], edges: u32) -> Pair {
-    let members_of = |group: &[u8]| (0..group.len()).filter(|&member| group[member] == 1).collect();
-    Pair {
-        s: members_of(s),
-        t: members_of(t),
-        edges,
-    }
 }

@@ -1,4 +1,4 @@
-//! Findings, layers and refusals read as they are printed: every sample, against the texts beside it.
+//! Findings, layers, pairs of the harmonic measure and refusals read as they are printed: every sample, against the texts beside it.
 use cogsplice::Network;
 use std::fs;
 use std::path::{Path, PathBuf};
@@ -34,10 +34,19 @@ fn findings_read_as_they_are_printed() {
     assert_read(samples(), "txt", |network| network.finding().to_string());
 }
 
+/// The samples that have a text of this kind beside them.
+fn samples_with(kind: &'static str) -> impl Iterator<Item = PathBuf> {
+    samples().filter(move |path| path.with_extension(kind).exists())
+}
+
 #[test]
 fn layers_read_as_they_are_printed() {
-    let layered = samples().filter(|path| path.with_extension("layers").exists());
-    assert_read(layered, "layers", |network| network.layers().to_string());
+    assert_read(samples_with("layers"), "layers", |network| network.layers().to_string());
+}
+
+#[test]
+fn harmonic_pairs_read_as_they_are_printed() {
+    assert_read(samples_with("harmonic"), "harmonic", |network| network.harmonic().to_string());
 }
 
 #[test]

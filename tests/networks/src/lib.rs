@@ -46,6 +46,14 @@ impl Network {
         Network::new(9, &[star, ring].concat())
     }
 
+    /// A star that hides a ring: member 0 vouches for twelve members that nobody else vouches for, and each of three for three others.
+    pub fn one_offs() -> Network {
+        let members: Vec<usize> = (0..19).collect();
+        let star = all_links(&members[..1], &members[1..13]);
+        let ring = all_links(&members[13..16], &members[16..]);
+        Network::new(members.len(), &[star, ring].concat())
+    }
+
     /// A ring [x,y] for each x and y whose product is this one, by ascending x. No two share a voucher or a vouched member, and the
     /// vouchers come before the vouched members.
     pub fn rings(product: usize) -> Network {

@@ -5,7 +5,7 @@ use crate::groups::{between, faulty, held, totals, Group};
 use cogsplice::lent::{FindingNumbers, LevelNumbers, TotalsNumbers};
 use networks::Network;
 
-/// The length of the work table of core, level, equal level, finding and layers.
+/// The length of the work table of core, level, equal level, finding, layers and harmonic.
 pub fn work_length(n: usize, m: usize) -> usize {
     2 * m + 6 * n + 2
 }
@@ -18,7 +18,7 @@ pub(crate) struct Search {
 }
 
 /// For each member, its links into T as a voucher in S, and its links from S as a vouched member in T.
-fn degrees(network: &Network, s: &Group, t: &Group) -> (Vec<usize>, Vec<usize>) {
+pub(crate) fn degrees(network: &Network, s: &Group, t: &Group) -> (Vec<usize>, Vec<usize>) {
     let (mut given, mut taken) = (vec![0; network.n], vec![0; network.n]);
     for &link in &network.links {
         if between(s, t, link) {
@@ -108,7 +108,7 @@ fn groups_of(search: &Search, (x, y): (usize, usize)) -> (Group, Group) {
 }
 
 /// Writes a group to the first n bytes of a table: 1 in, 0 out.
-fn put(group: &Group, table: &mut [u8]) {
+pub(crate) fn put(group: &Group, table: &mut [u8]) {
     for (byte, &inside) in table.iter_mut().zip(group) {
         *byte = inside as u8;
     }

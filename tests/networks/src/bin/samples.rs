@@ -62,6 +62,7 @@ fn main() {
     write("star", &network(4, &[(0, 1), (0, 2), (0, 3)]));
     write("tie", &network(6, &[(0, 1), (0, 2), (3, 5), (4, 5)]));
     write("star-and-ring", &encode(&Network::star_and_ring()));
+    write("one-offs", &encode(&Network::one_offs()));
     write("twelve", &encode(&Network::rings(12)));
     write("planted-ring", &planted_ring());
     write("two-rings", &two_rings());

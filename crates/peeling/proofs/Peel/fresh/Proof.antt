@@ -1,4 +1,5 @@
 -- `peeling::Peel::fresh` meets its contract: with the degrees filled in, the table holds the peel that has not begun.
+use mathlib.Core.Path.{refl}
 use borrow.Author.Needs.{needs}
 use Rattle.peeling.proofs.Tables.{start-first}
 use Rattle.peeling.proofs.Kept.{rows-kept}
@@ -33,7 +34,7 @@ same-length c = search needs
 returns : tie.Need-returns
 returns c =
     let filled = c .before .before .before .before .before .fill-degrees .ensures in
-    (whole-peel (c .before .before .before .before .before .before .before .before .pre .1) (filled .0) (filled .1) (c .wide16 .ensures), filled .0)
+    (whole-peel (c .before .before .before .before .before .before .before .before .pre .1) (filled .0) (filled .1) (c .wide16 .ensures), (refl, filled .0))
 
 pub fresh-spec : {M : Type 1} → statement M
 fresh-spec = tie.close (tie.spec fill-degrees-requires mul-wide16 slice-read-wide16 slice-read-wide16-2 sub-wide16 wide16-requires same-length returns)

@@ -16,7 +16,7 @@ same-length c = search needs
 returns : tie.Need-returns
 returns c =
     let after = c .before .before .advance .ensures in
-    ended-from after (kept-next (c .before .before .before .before .before .before .fresh .ensures .1) (after .kept))
+    ended-from after (kept-next (c .before .before .before .before .before .before .fresh .ensures .1 .1) (after .kept))
 
 pub whole-spec : {M : Type 1} → statement M
 whole-spec = tie.close (tie.spec fresh-requires advance-requires same-length returns)

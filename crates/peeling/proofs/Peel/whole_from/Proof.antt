@@ -38,7 +38,7 @@ returns c =
     let fresh = tightened .before .before .before .before in
     let e = c .before .before .advance .ensures in
     let thinner = rw (fresh .before .before .of-side .ensures) at (thinned .thin .ensures .1) in
-    ended-from e (kept-next (kept-next (fresh .fresh .ensures .1) (tightened .tighten .ensures .1 .1)) (kept-next thinner (e .kept)))
+    ended-from e (kept-next (kept-next (fresh .fresh .ensures .1 .1) (tightened .tighten .ensures .1 .1)) (kept-next thinner (e .kept)))
 
 pub whole-from-spec : {M : Type 1} → statement M
 whole-from-spec =

@@ -1,7 +1,7 @@
 //! Each call on a case's file, by the reference and by the library, with tables of many lengths.
 use crate::case::Case;
 use crate::indexes::try_indexes;
-use crate::inside::{everyone, lend, lent_groups, tries_inside};
+use crate::inside::{everyone, lend, lent_groups, tries_inside, Groups};
 use crate::table::{lengths_to_try, Table};
 use cogsplice::lent;
 use networks::{root, Network};
@@ -24,6 +24,7 @@ pub fn try_all(case: &mut Case) {
     try_equal_level(case);
     try_finding(case);
     try_layers(case);
+    try_harmonic(case);
     try_equal_findings(case);
     let after = case.file.clone();
     case.compare(|| "the file stays as it was".into(), before, after);
@@ -136,9 +137,11 @@ fn try_write_again(case: &mut Case, mut network: Network) {
 }
 
 fn try_core(case: &mut Case, x: u16, y: u16) {
+    let tries = pairs_inside(case);
     try_groups(
         case,
         &format!("core {x} {y}"),
+        tries,
         |file, groups, s, t, work| reference::core(file, groups, x, y, s, t, work),
         |file, [a, b], s, t, work| lent::core(file, a, b, x, y, s, t, work),
         |answer| answer.refusal,
@@ -146,13 +149,43 @@ fn try_core(case: &mut Case, x: u16, y: u16) {
 }
 
 fn try_finding(case: &mut Case) {
+    let tries = pairs_inside(case);
     try_groups(
         case,
         "finding",
+        tries,
         reference::finding,
         |file, [a, b], s, t, work| lent::finding(file, a, b, s, t, work),
         |answer| answer.refusal,
     );
+}
+
+/// The harmonic call, which has no A and B.
+fn try_harmonic(case: &mut Case) {
+    let (n, m) = case.claimed();
+    let lengths = lengths_to_try(&mut case.draw, [n, n, work_length(n, m)]);
+    let tries = lengths
+        .into_iter()
+        .map(|lengths| (Groups::default(), lengths));
+    try_groups(
+        case,
+        "harmonic",
+        tries.collect(),
+        |file, _, s, t, work| reference::harmonic(file, s, t, work),
+        |file, _, s, t, work| lent::harmonic(file, s, t, work),
+        |answer| answer.refusal,
+    );
+}
+
+/// A and B, and the lengths of S, T and the work table.
+type Try = (Groups, [usize; 3]);
+
+/// Tries of a call that searches inside A and B, writes two groups and is lent a work table.
+fn pairs_inside(case: &mut Case) -> Vec<Try> {
+    let (n, m) = case.claimed();
+    let tries = tries_inside(&mut case.draw, n, [n, n, n, n, work_length(n, m)]);
+    let own = |(groups, [_, _, s, t, work]): (Groups, [usize; 5])| (groups, [s, t, work]);
+    tries.into_iter().map(own).collect()
 }
 
 /// Clears what is free of the work tables lent to a call of this refusal: the entries that it needs where it was accepted, else none.
@@ -165,18 +198,17 @@ fn clear_work(case: &Case, refusal: u16, tables: [&mut Table<u16>; 2]) {
     }
 }
 
-/// A call that searches inside A and B, writes two groups and is lent a work table.
+/// A call that writes two groups and is lent a work table, perhaps with A and B to search inside.
 fn try_groups<A: PartialEq + Debug>(
     case: &mut Case,
     call: &str,
+    tries: Vec<Try>,
     reference: impl Fn(&[u8], [&[u8]; 2], &mut [u8], &mut [u8], usize) -> A,
     library: impl Fn(&[u8], [&[u8]; 2], &mut [u8], &mut [u8], &mut [u16]) -> A,
     refusal: impl Fn(&A) -> u16,
 ) {
-    let (n, m) = case.claimed();
-    let needed = [n, n, n, n, work_length(n, m)];
-    for (groups, lengths) in tries_inside(&mut case.draw, n, needed) {
-        let [.., s_length, t_length, work_length] = lengths;
+    for (groups, lengths) in tries {
+        let [s_length, t_length, work_length] = lengths;
         let mut s = Table::bytes(&mut case.draw, s_length);
         let mut t = Table::bytes(&mut case.draw, t_length);
         let mut work = Table::words(&mut case.draw, work_length);

@@ -144,6 +144,8 @@ pub fn enumerate(case: &mut Case) {
         let network = network.clone();
         try_search(case, &Search { network, within });
     }
+    case.kind = kind;
+    try_harmonic(case, &network);
 }
 
 /// Every call that searches inside A and B.
@@ -273,6 +275,29 @@ fn try_layers(case: &mut Case, search: &Search) {
     }
     let from_a_to_b = edges(network, *within);
     case.compare(|| "layers: the sum of their E".into(), from_a_to_b, sum);
+}
+
+/// The harmonic call: its numbers are those of the pair written, both groups are empty exactly when there is no link, and no pair of
+/// non-empty groups has more than twice the measure of the pair written.
+fn try_harmonic(case: &mut Case, network: &Network) {
+    let (n, m) = (network.n, network.links.len());
+    let (mut s, mut t, mut work) = (vec![0; n], vec![0; n], vec![0; work_length(n, m)]);
+    let told = lent::harmonic(&case.file, &mut s, &mut t, &mut work);
+    let found = (bits(&s), bits(&t));
+    let numbers = [told.edges as usize, told.sources, told.targets];
+    let counted = [edges(network, found), size(found.0), size(found.1)];
+    case.compare(|| "harmonic: numbers".into(), counted, numbers);
+    let groups = match m {
+        0 => found == (0, 0),
+        _ => found.0 > 0 && found.1 > 0,
+    };
+    case.compare(|| "harmonic: groups".into(), true, groups);
+    let sizes = |(s, t): Pair| size(s) + size(t);
+    let everyone = (1 << n) - 1;
+    let twice = all_pairs((everyone, everyone))
+        .filter(|&(s, t)| s > 0 && t > 0)
+        .all(|pair| edges(network, pair) * sizes(found) <= 2 * edges(network, found) * sizes(pair));
+    case.compare(|| "harmonic: factor two".into(), true, twice);
 }
 
 /// The [x,y]-core by the definition: the union of all pairs that satisfy it.

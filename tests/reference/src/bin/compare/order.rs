@@ -64,7 +64,12 @@ const FAULTY_A: Spoil = (11, |given| given.inside[0][0] = 2);
 const FAULTY_B: Spoil = (11, |given| *given.inside[1].last_mut().unwrap() = 255);
 const ZERO: Spoil = (12, |given| given.asked = 0);
 
-const CALLS: [Call; 10] = [
+/// A table that a call only writes may hold anything before: no number is for it.
+const NOT_A_GROUP: Spoil = (0, |given| {
+    given.groups[0].iter_mut().for_each(|byte| *byte = 7)
+});
+
+const CALLS: [Call; 11] = [
     Call {
         name: "check",
         shorten: &[],
@@ -145,6 +150,15 @@ const CALLS: [Call; 10] = [
         refusal: |file, given| {
             let [a, b] = lend(&given.inside);
             lent::layers(file, a, b, &mut given.layers, &mut given.work).refusal
+        },
+    },
+    Call {
+        name: "harmonic",
+        shorten: &[SHORT_S, SHORT_T, SHORT_WORK],
+        spoil: &[NOT_A_GROUP],
+        refusal: |file, given| {
+            let [s, t] = &mut given.groups;
+            lent::harmonic(file, s, t, &mut given.work).refusal
         },
     },
 ];

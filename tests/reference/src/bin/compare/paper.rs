@@ -1,5 +1,5 @@
-//! The examples and limits that the papers name, and the layers of these examples and W among some members as worked out by hand, by the
-//! reference and by the library.
+//! The examples and limits that the papers name, and the layers and harmonic pairs of these examples and W among some members as worked out
+//! by hand, by the reference and by the library.
 use crate::calls::try_all;
 use crate::case::Case;
 use crate::inside::{lend, Groups};
@@ -57,6 +57,7 @@ pub fn paper(case: &mut Case) {
     expect_core(case, &all, [3, 0], 0, &[], &[0, 1, 2, 3, 4, 5]);
     expect_levels(case, &all, &[(1, 3), (2, 3), (3, 0)], &[(3, 2)]);
     expect_finding(case, [2, 3, 2, 6], &[0, 1, 2], &[3, 4]);
+    expect_harmonic(case, 6, &[0, 1, 2], &[3, 4]);
     let enough = work_length(6, 8);
     expect_layers(case, [8, enough], (0, 2), &[1, 1, 1, 1, 1, 1, 2, 2]);
     expect_layers(case, [10, enough], (0, 2), &[1, 1, 1, 1, 1, 1, 2, 2]);
@@ -68,13 +69,18 @@ pub fn paper(case: &mut Case) {
     expect_regions(case);
     set(case, "P6", 4, &[(0, 1), (0, 2), (0, 3)]);
     expect_finding(case, [3, 1, 1, 3], &[0], &[1, 2, 3]);
+    expect_harmonic(case, 3, &[0], &[1, 2, 3]);
     expect_layers(case, [3, work_length(4, 3)], (0, 1), &[1, 1, 1]);
     set(case, "P7", 6, &[(0, 1), (0, 2), (3, 5), (4, 5)]);
     expect_finding(case, [1, 2, 1, 2], &[3, 4], &[5]);
+    // Both stars, and later that of member 0 alone, have the greatest measure, 2 × 4 / 6 and 2 × 2 / 3: the earlier pair counts.
+    expect_harmonic(case, 4, &[0, 3, 4], &[1, 2, 5]);
     expect_layers(case, [4, work_length(6, 4)], (0, 2), &[2, 2, 1, 1]);
     expect_even_pairs(case);
+    expect_one_offs(case);
     set(case, "P8", 1, &[(0, 0)]);
     expect_finding(case, [1, 1, 1, 1], &[0], &[0]);
+    expect_harmonic(case, 1, &[0], &[0]);
     expect_layers(case, [1, work_length(1, 1)], (0, 1), &[1]);
     set(case, "P9", 1, &[]);
     expect_quiet(case);
@@ -92,14 +98,28 @@ fn expect_even_pairs(case: &mut Case) {
     case.kind = "star and ring".into();
     case.file = encode(&Network::star_and_ring());
     expect_finding(case, [2, 2, 2, 4], &[5, 6], &[7, 8]);
+    expect_harmonic(case, 4, &[5, 6], &[7, 8]);
     let layers = [2, 2, 2, 2, 1, 1, 1, 1];
     expect_layers(case, [8, work_length(9, 8)], (0, 2), &layers);
     try_all(case);
     case.kind = "rings of product 12".into();
     case.file = encode(&Network::rings(12));
     expect_finding(case, [3, 4, 3, 12], &[18, 19, 20, 21], &[31, 32, 33]);
+    // [3,4] and [4,3] together are met before either of them alone, and have the same measure.
+    let (s, t): (Vec<usize>, Vec<usize>) = ((18..25).collect(), (31..38).collect());
+    expect_harmonic(case, 24, &s, &t);
     let layers = [5, 3, 1, 2, 4, 6].map(|layer| [layer; 12]).concat();
     expect_layers(case, [72, work_length(56, 72)], (0, 6), &layers);
+    try_all(case);
+}
+
+/// The finding is a star, and the harmonic measure finds the ring beside it.
+fn expect_one_offs(case: &mut Case) {
+    case.kind = "one-offs".into();
+    case.file = encode(&Network::one_offs());
+    let leaves: Vec<usize> = (1..13).collect();
+    expect_finding(case, [12, 1, 3, 12], &[0], &leaves);
+    expect_harmonic(case, 9, &[13, 14, 15], &[16, 17, 18]);
     try_all(case);
 }
 
@@ -128,6 +148,25 @@ fn expect_regions(case: &mut Case) {
     }
 }
 
+/// The answer of a call that found these groups.
+fn totals(edges: u32, s: &[usize], t: &[usize]) -> TotalsNumbers {
+    TotalsNumbers {
+        refusal: 0,
+        link: 0,
+        edges,
+        sources: s.len(),
+        targets: t.len(),
+    }
+}
+
+/// What a call answers that is lent two tables of other bytes, two longer than the groups, and the tables after it.
+fn with_tables<A>(n: usize, call: impl FnOnce(&mut [u8], &mut [u8]) -> A) -> (A, Groups) {
+    let mut groups = [vec![7; n + 2], vec![7; n + 2]];
+    let [s, t] = &mut groups;
+    let answer = call(s, t);
+    (answer, groups)
+}
+
 /// E, S and T of the [x,y]-core of W inside A and B.
 fn expect_core(
     case: &mut Case,
@@ -139,13 +178,7 @@ fn expect_core(
 ) {
     let (mut lent_s, mut lent_t) = (vec![0; 6], vec![0; 6]);
     let mut work = vec![0; work_length(6, 8)];
-    let expected = TotalsNumbers {
-        refusal: 0,
-        link: 0,
-        edges,
-        sources: s.len(),
-        targets: t.len(),
-    };
+    let expected = totals(edges, s, t);
     let inside = lend(groups);
     let plain = reference::core(
         &case.file,
@@ -204,7 +237,7 @@ fn expect_finding(case: &mut Case, numbers: [usize; 4], s: &[usize], t: &[usize]
     expect_finding_inside(case, &all, numbers, s, t);
 }
 
-/// x, y, the equal level and E; S and T. Tables of other bytes are lent, two longer than the groups: the two last stay.
+/// x, y, the equal level and E; S and T. The two last bytes of the lent tables stay.
 fn expect_finding_inside(
     case: &mut Case,
     inside: &Groups,
@@ -228,15 +261,24 @@ fn expect_finding_inside(
     let (n, m) = case.claimed();
     let wanted = (expected, groups_of(n, [s, t]));
     let mut work = vec![0; work_length(n, m)];
-    let mut groups = [vec![7; n + 2], vec![7; n + 2]];
-    let [lent_s, lent_t] = &mut groups;
-    let plain = reference::finding(&case.file, lend(inside), lent_s, lent_t, work.len());
-    case.compare(|| "finding: reference".into(), &wanted, &(plain, groups));
-    let mut groups = [vec![7; n + 2], vec![7; n + 2]];
-    let [lent_s, lent_t] = &mut groups;
+    let plain = with_tables(n, |s, t| {
+        reference::finding(&case.file, lend(inside), s, t, work.len())
+    });
+    case.compare(|| "finding: reference".into(), &wanted, &plain);
     let [a, b] = lend(inside);
-    let given = lent::finding(&case.file, a, b, lent_s, lent_t, &mut work);
-    case.compare(|| "finding".into(), &wanted, &(given, groups));
+    let given = with_tables(n, |s, t| lent::finding(&case.file, a, b, s, t, &mut work));
+    case.compare(|| "finding".into(), &wanted, &given);
+}
+
+/// E, S and T of the pair of the harmonic measure. The two last bytes of the lent tables stay.
+fn expect_harmonic(case: &mut Case, edges: u32, s: &[usize], t: &[usize]) {
+    let (n, m) = case.claimed();
+    let wanted = (totals(edges, s, t), groups_of(n, [s, t]));
+    let mut work = vec![0; work_length(n, m)];
+    let plain = with_tables(n, |s, t| reference::harmonic(&case.file, s, t, work.len()));
+    case.compare(|| "harmonic: reference".into(), &wanted, &plain);
+    let given = with_tables(n, |s, t| lent::harmonic(&case.file, s, t, &mut work));
+    case.compare(|| "harmonic".into(), &wanted, &given);
 }
 
 fn expect_layers(case: &mut Case, lengths: [usize; 2], numbers: (u16, usize), of_links: &[u16]) {
@@ -272,10 +314,12 @@ fn expect_layers_inside(
     case.compare(|| "layers".into(), &wanted, &(given, table));
 }
 
-/// The file has no link: zeros and empty groups, no layers and their table unchanged, and a report without members. 9 is still given.
+/// The file has no link: zeros and empty groups, also by the harmonic measure, no layers and their table unchanged, and a report without
+/// members. 9 is still given.
 fn expect_quiet(case: &mut Case) {
     let enough = work_length(case.claimed().0, 0);
     expect_finding(case, [0; 4], &[], &[]);
+    expect_harmonic(case, 0, &[], &[]);
     expect_layers(case, [0, enough], (0, 0), &[]);
     expect_layers(case, [2, enough], (0, 0), &[]);
     expect_layers(case, [2, enough - 1], (9, 0), &[]);
