@@ -38,7 +38,7 @@ static inline const uint8_t *everyone(void) {
 
 static void print_refusal(uint16_t refusal, uint16_t link) {
     printf("refused %u", (unsigned)refusal);
-    if (refusal == COGSPLICE_REFUSED_END || refusal == COGSPLICE_REFUSED_REPEAT)
+    if (refusal == COGSPLICE_REFUSED_END || refusal == COGSPLICE_REFUSED_REPEAT || refusal == COGSPLICE_REFUSED_ORDER)
         printf(" at %u", (unsigned)link);
     printf("\n");
 }

@@ -33,6 +33,7 @@ static void no_table(void) {
     EXPECT(9, cogsplice_count(W, NONE, ALL(t)));
     EXPECT(9, cogsplice_count(W, ALL(s), NONE));
     EXPECT(9, cogsplice_write(W, NONE));
+    EXPECT(9, cogsplice_order(W, NONE));
     EXPECT(9, cogsplice_index(W, NONE, ALL(rows), ALL(other_starts), ALL(other_rows)));
     EXPECT(9, cogsplice_index(W, ALL(starts), NONE, ALL(other_starts), ALL(other_rows)));
     EXPECT(9, cogsplice_index(W, ALL(starts), ALL(rows), NONE, ALL(other_rows)));
@@ -70,6 +71,7 @@ static void enough(const uint8_t *file, size_t length) {
     EXPECT(0, cogsplice_check(file, length));
     EXPECT(0, cogsplice_count(file, length, NONE, NONE));
     EXPECT(0, cogsplice_write(file, length, ALL(out)));
+    EXPECT(0, cogsplice_order(file, length, ALL(out)));
     EXPECT(0, cogsplice_index(file, length, ALL(starts), NONE, ALL(other_starts), NONE));
     EXPECT(0, cogsplice_core(file, length, NONE, NONE, 1, 1, NONE, NONE, ALL(work)));
     EXPECT(0, cogsplice_level(file, length, NONE, NONE, 1, ALL(work)));
@@ -83,6 +85,7 @@ static void enough(const uint8_t *file, size_t length) {
 /* Outputs, starts and work tables of no entries are too short for every network. */
 static void not_enough(const uint8_t *file, size_t length) {
     EXPECT(9, cogsplice_write(file, length, NONE));
+    EXPECT(9, cogsplice_order(file, length, NONE));
     EXPECT(9, cogsplice_index(file, length, NONE, NONE, ALL(other_starts), NONE));
     EXPECT(9, cogsplice_index(file, length, ALL(starts), NONE, NONE, NONE));
     EXPECT(9, cogsplice_core(file, length, NONE, NONE, 1, 1, NONE, NONE, NONE));

@@ -1,13 +1,44 @@
 //! The networks that are measured, the same in every run.
 use networks::{encode, Draw, Link, Network};
 
-/// A network file and what it is called in the tables.
+/// How the links of a file stand.
+#[derive(Clone, Copy, PartialEq, Eq)]
+pub enum Links {
+    /// In order: every call accepts the file.
+    Ascending,
+    /// In random order: every call but `order` refuses the file by 15.
+    Shuffled,
+    /// In random order, the last the same as the first: every call refuses the file by 8.
+    Repeating,
+}
+
+impl Links {
+    pub fn name(self) -> &'static str {
+        match self {
+            Links::Ascending => "ascending",
+            Links::Shuffled => "in random order",
+            Links::Repeating => "in random order, the last a repeat",
+        }
+    }
+
+    /// A call or a network by its name, and how the links stand where they do not ascend.
+    pub fn of(self, name: &str) -> String {
+        match self {
+            Links::Ascending => name.to_string(),
+            Links::Shuffled | Links::Repeating => format!("{name}, links {}", self.name()),
+        }
+    }
+}
+
+/// A network, its files and what it is called in the tables.
 #[derive(Clone)]
 pub struct Input {
     pub name: String,
     pub n: usize,
     pub m: usize,
-    pub file: Vec<u8>,
+    ascending: Vec<u8>,
+    shuffled: Vec<u8>,
+    repeating: Vec<u8>,
     /// The groups A and B that the calls search inside.
     pub a: Vec<u8>,
     pub b: Vec<u8>,
@@ -17,19 +48,34 @@ pub struct Input {
 }
 
 impl Input {
-    /// A network that is searched with everyone in A and B.
-    fn new(name: &str, network: &Network, random: &mut Draw) -> Self {
-        let n = network.n;
+    /// The network of links in random order, searched with everyone in A and B.
+    fn new(name: &str, n: usize, links: Vec<Link>, random: &mut Draw) -> Self {
         let mut group = || (0..n).map(|_| random.below(2) as u8).collect();
+        let (m, mut network) = (links.len(), Network { n, links });
+        let shuffled = encode(&network);
+        let mut repeating = shuffled.clone();
+        repeating.copy_within(9..13, shuffled.len() - 4);
+        network.links.sort_unstable();
         Self {
             name: name.to_string(),
             n,
-            m: network.links.len(),
-            file: encode(network),
+            m,
+            ascending: encode(&network),
+            shuffled,
+            repeating,
             a: vec![1; n],
             b: vec![1; n],
             s: group(),
             t: group(),
+        }
+    }
+
+    /// The file in which the links stand so.
+    pub fn file(&self, links: Links) -> &[u8] {
+        match links {
+            Links::Ascending => &self.ascending,
+            Links::Shuffled => &self.shuffled,
+            Links::Repeating => &self.repeating,
         }
     }
 
@@ -81,9 +127,11 @@ fn power_law(n: usize, m: usize, random: &mut Draw) -> Vec<Link> {
 }
 
 /// Every member of the first half vouches for every member of the second.
-fn block(half: usize) -> Vec<Link> {
+fn block(half: usize, random: &mut Draw) -> Vec<Link> {
     let row = |source| (half..2 * half).map(move |target| (source, target));
-    (0..half).flat_map(row).collect()
+    let mut links: Vec<Link> = (0..half).flat_map(row).collect();
+    random.shuffle(&mut links);
+    links
 }
 
 /// Member i, counted from 1, vouches for the first area / i members: for every x up to the root of the area no core of a greater
@@ -142,14 +190,10 @@ pub const HALVED: [&str; 2] = ["random", "planted pair of 40 and 30"];
 pub fn shapes() -> Vec<Input> {
     let random = &mut Draw::new(1);
     let links = uniform(2048, 8192, random);
-    let mut ascending = links.clone();
-    ascending.sort_unstable();
     let star = star_out(2048, random);
     let networks = [
         ("random", 2048, links),
-        ("random, ascending file", 2048, ascending),
         ("power law", 2048, power_law(2048, 8192, random)),
-        ("block of 90 by 90, ascending file", 180, block(90)),
         ("star out", 2048, star.clone()),
         ("star in", 2048, reversed(&star)),
         ("staircase", 1139, staircase(1139, random)),
@@ -160,10 +204,11 @@ pub fn shapes() -> Vec<Input> {
         ),
         ("stars of 1 to 62, out and in", 2015, stars(62, random)),
         ("rings of product 336", 1984, rings(336, random)),
+        ("block of 90 by 90", 180, block(90, random)),
     ];
     let inputs = networks.into_iter();
     inputs
-        .map(|(name, n, links)| Input::new(name, &Network { n, links }, random))
+        .map(|(name, n, links)| Input::new(name, n, links, random))
         .collect()
 }
 
@@ -175,7 +220,7 @@ pub fn growing() -> Vec<Input> {
         .map(|m| {
             let n = m / 4;
             let links = uniform(n, m, random);
-            Input::new(&format!("random, m = {m}"), &Network { n, links }, random)
+            Input::new(&format!("random, m = {m}"), n, links, random)
         })
         .into()
 }

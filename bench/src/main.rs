@@ -7,13 +7,13 @@ mod sides;
 
 use inputs::{growing, shapes, HALVED};
 use measure::{measure, Halved};
-use sides::Call;
+use sides::{Call, Timed};
 use std::path::Path;
 
 fn main() -> std::io::Result<()> {
     let all = |inputs: Vec<_>| -> Vec<_> {
         let inputs = inputs.into_iter();
-        inputs.map(|input| measure(input, &Call::ALL)).collect()
+        inputs.map(|input| measure(input, &Timed::all())).collect()
     };
     let shapes = all(shapes());
     let halved = shapes
@@ -22,7 +22,7 @@ fn main() -> std::io::Result<()> {
     let halves: Vec<_> = halved
         .map(|whole| Halved {
             whole,
-            half: measure(whole.input.half(), &Call::INSIDE),
+            half: measure(whole.input.half(), &Call::INSIDE.map(Timed::ascending)),
         })
         .collect();
     let growth = all(growing());

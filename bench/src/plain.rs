@@ -8,7 +8,8 @@ mod peel;
 use chunks::chunks_mut;
 use drops::Drops;
 use network::{
-    counted, fill_starts, next_place, source, target, Link, Network, Sorter, HEADER_LENGTH,
+    counted, fill_out_starts, fill_starts, next_place, source, target, Link, Network, Sorter,
+    HEADER_LENGTH,
 };
 use peel::{Need, Peel, Rise};
 use std::cmp::Reverse;
@@ -86,37 +87,48 @@ impl Plain {
         Ok([edges, size_of(s), size_of(t)])
     }
 
-    /// Writes the file with its links in order and returns m.
+    /// Writes the file as it stands and returns m.
     pub fn write(&mut self, file: &[u8], out: &mut [u8]) -> Result<[usize; 1], Refusal> {
         let file = counted(file);
         let network = self.sorter.accept(file)?;
         Refusal::of_tables(&[(out.len(), file.len())])?;
-        let (header, links) = out[..file.len()].split_at_mut(HEADER_LENGTH);
-        header.copy_from_slice(&file[..HEADER_LENGTH]);
-        self.sorter.lay_out(network, |link| link, chunks_mut(links));
+        out[..file.len()].copy_from_slice(file);
         Ok([network.links.len()])
     }
 
-    /// Fills the four tables.
+    /// Writes a file by the old rule with its links in order and returns m.
+    pub fn order(&mut self, file: &[u8], out: &mut [u8]) -> Result<[usize; 1], Refusal> {
+        let file = counted(file);
+        let network = self.sorter.accept_old(file)?;
+        Refusal::of_tables(&[(out.len(), file.len())])?;
+        let (header, links) = out[..file.len()].split_at_mut(HEADER_LENGTH);
+        header.copy_from_slice(&file[..HEADER_LENGTH]);
+        self.sorter.lay_out(network, chunks_mut(links));
+        Ok([network.links.len()])
+    }
+
+    /// Fills the four tables. The links come by voucher, then vouched: so do the out-rows, and each in-row is filled by voucher.
     pub fn index(&mut self, file: &[u8], index: Index) -> Result<[usize; 0], Refusal> {
-        let network = self.sorter.accept(file)?;
-        let (n, m) = (network.n, network.links.len());
+        let Network { n, links, .. } = self.sorter.accept(file)?;
+        let m = links.len();
         Refusal::of_tables(&[
             (index.out_starts.len(), n + 1),
             (index.out_rows.len(), m),
             (index.in_starts.len(), n + 1),
             (index.in_rows.len(), m),
         ])?;
-        let vouched = |link| target(link) as u16;
-        self.sorter.lay_out(network, vouched, index.out_rows);
-        let links = network.links.iter();
-        let sources = links.clone().map(|&link| source(link));
-        fill_starts(sources, &mut index.out_starts[..=n]);
-        let targets = links.map(|&link| target(link));
+        for (entry, &link) in index.out_rows.iter_mut().zip(links) {
+            *entry = target(link) as u16;
+        }
+        fill_out_starts(links, &mut index.out_starts[..=n]);
+        let targets = links.iter().map(|&link| target(link));
         fill_starts(targets, &mut index.in_starts[..=n]);
         self.ends.clear();
         self.ends.extend_from_slice(&index.in_starts[..n]);
-        turn_over(index, &mut self.ends);
+        let (ends, in_rows) = (&mut self.ends[..], &mut index.in_rows[..m]);
+        for &link in links {
+            in_rows[next_place(ends, target(link))] = source(link) as u16;
+        }
         Ok([])
     }
 
@@ -274,15 +286,6 @@ fn list_inside<T: Clone + Default>(
 /// 1 where a link goes from one group to the other, else 0.
 fn is_between(link: Link, [s, t]: [&[u8]; 2]) -> u8 {
     s[source(link)] & t[target(link)]
-}
-
-/// Fills the in-rows from the out-rows. Those come by voucher, so that each row is filled by voucher and nothing is sorted again.
-fn turn_over(index: Index, ends: &mut [u16]) {
-    for (voucher, row) in index.out_starts.windows(2).take(ends.len()).enumerate() {
-        for &vouched in &index.out_rows[usize::from(row[0])..usize::from(row[1])] {
-            index.in_rows[next_place(ends, usize::from(vouched))] = voucher as u16;
-        }
-    }
 }
 
 fn size_of(group: &[u8]) -> usize {

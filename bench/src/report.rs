@@ -1,6 +1,6 @@
 //! The text of the measurements.
 use crate::measure::{Halved, Measured, Times, ROUND, ROUNDS};
-use crate::sides::Call;
+use crate::sides::{Call, Timed};
 use std::fmt::Write;
 use std::process::Command;
 use std::time::{SystemTime, UNIX_EPOCH};
@@ -11,7 +11,7 @@ struct Goal {
     most: f64,
 }
 
-const GOALS: [Goal; 6] = [
+const GOALS: [Goal; 7] = [
     Goal {
         call: Call::Finding,
         most: 1.2,
@@ -36,20 +36,25 @@ const GOALS: [Goal; 6] = [
         call: Call::Write,
         most: 2.0,
     },
+    Goal {
+        call: Call::Order,
+        most: 2.0,
+    },
 ];
 
 /// Whatever is measured, for the screen and for docs/BENCHMARKS.md.
 pub fn report(shapes: &[Measured], halves: &[Halved], growth: &[Measured]) -> String {
-    let [how, goals, times, among_half, growing] = [
-        how_measured(),
-        goal_table(shapes, halves, growth),
-        time_table(shapes),
-        half_table(halves),
-        growth_tables(growth),
+    let parts = [
+        ("Goals", goal_table(shapes, halves, growth)),
+        ("Times", time_table(shapes)),
+        ("Half of the members", half_table(halves)),
+        ("Links in any order", order_table(shapes)),
+        ("Growth", growth_tables(growth)),
     ];
-    format!(
-        "# Benchmarks\n\n{how}\n## Goals\n\n{goals}\n## Times\n\n{times}\n## Half of the members\n\n{among_half}\n## Growth\n\n{growing}"
-    )
+    let how = how_measured();
+    let part = |(title, text): (&str, String)| format!("\n## {title}\n\n{text}");
+    let parts: String = parts.map(part).concat();
+    format!("# Benchmarks\n\n{how}{parts}")
 }
 
 fn how_measured() -> String {
@@ -69,29 +74,28 @@ Then each call is timed, the two sides turn by turn, in {ROUNDS} rounds of at le
 call counts, in microseconds. The ratio is the library's time divided by that of plain Rust.
 
 Both sides check the file in every call, run in one thread, and write to tables that are lent to them. Nothing clears these tables
-between calls. What plain Rust sorts and peels in is kept from call to call, so that no allocation is timed. It sorts the links at
-most once in a call, and ends a peel as soon as a side is empty. Library and plain Rust both take the level of 1 from the longest
+between calls. What plain Rust sorts and peels in is kept from call to call, so that no allocation is timed. It sorts links only where
+they do not ascend, and ends a peel as soon as a side is empty. Library and plain Rust both take the level of 1 from the longest
 row, and begin a climb with the side that rises. Both ask first whether everyone is in A and B, and else list the links from A to B in
 one pass and search among these; for the layers plain Rust takes those that have a layer from the list, and searches the others anew for
 each layer. For the harmonic measure both find the next place to drop by a tree of matches over the places, in which a place whose
 degree fell plays only up to the first match that it loses; plain Rust has the leaves of the tree in a table too, and stops dropping
 where no link is left.
-Everyone is in A and B, but for the table of half of the members. Unless a file is called ascending, its links stand in random order.
+Everyone is in A and B, but for the table of half of the members. Links ascend, unless it is said that they stand in random order.
 "
     )
 }
 
 fn goal_table(shapes: &[Measured], halves: &[Halved], growth: &[Measured]) -> String {
     let head =
-        "| Call | Goal | Greatest ratio | On | Networks above | Met |\n|---|---|---|---|---|---|\n";
+        "| Call | Goal | Greatest ratio | On | Measured above | Met |\n|---|---|---|---|---|---|\n";
     let mut text = head.to_string();
     for Goal { call, most } in GOALS {
         let halves = halves.iter().map(|halved| &halved.half);
-        let halves = halves.filter(|_| Call::INSIDE.contains(&call));
         let measured = shapes.iter().chain(halves).chain(growth);
-        let mut ratios: Vec<_> = measured.map(|one| (one.of(call).ratio(), one)).collect();
+        let mut ratios: Vec<_> = measured.flat_map(|one| ratios(one, call)).collect();
         ratios.sort_by(|a, b| b.0.total_cmp(&a.0));
-        let (greatest, on) = (ratios[0].0, &ratios[0].1.input.name);
+        let (greatest, on) = &ratios[0];
         let above = ratios.iter().filter(|(ratio, _)| *ratio > most).count();
         let (call, all) = (call.name(), ratios.len());
         let met = if above == 0 { "yes" } else { "no" };
@@ -105,13 +109,20 @@ fn goal_table(shapes: &[Measured], halves: &[Halved], growth: &[Measured]) -> St
     text
 }
 
+/// The ratios of a call on the files of a network, and what these are called.
+fn ratios(one: &Measured, call: Call) -> impl Iterator<Item = (f64, String)> + '_ {
+    let named = move |times: &Times| (times.ratio(), times.timed.links.of(&one.input.name));
+    one.all_of(call).map(named)
+}
+
 fn time_table(measured: &[Measured]) -> String {
     let head = "| Network | n | m | Layers | Call | Library (µs) | Plain Rust (µs) | Ratio |\n|---|---|---|---|---|---|---|---|\n";
     let mut text = head.to_string();
     for one in measured {
-        for times in &one.times {
+        for call in Call::ALL {
             let (name, n, m) = (&one.input.name, one.input.n, one.input.m);
-            let (layers, call, cells) = (one.layers, times.call.name(), cells(times));
+            let cells = cells(one.of(Timed::ascending(call)));
+            let (layers, call) = (one.layers, call.name());
             add(
                 &mut text,
                 &format!("| {name} | {n} | {m} | {layers} | {call} | {cells} |"),
@@ -138,7 +149,7 @@ fn half_table(halves: &[Halved]) -> String {
         for call in Call::INSIDE {
             for (who, one) in [("everyone", *whole), ("half", half)] {
                 let (network, name, layers) = (&whole.input.name, call.name(), one.layers);
-                let cells = cells(one.of(call));
+                let cells = cells(one.of(Timed::ascending(call)));
                 add(
                     &mut text,
                     &format!("| {network} | {name} | {who} | {layers} | {cells} |"),
@@ -149,17 +160,39 @@ fn half_table(halves: &[Halved]) -> String {
     text
 }
 
+/// The calls that are timed on links that do not ascend, beside the same on links that do.
+fn order_table(measured: &[Measured]) -> String {
+    let mut text = "Where links do not ascend, every call refuses the file by 8 if one repeats an earlier one, and every call but `order` by 15 if none does. Beside each such file stands the ascending one.
+
+| Network | n | m | Call | Links | Library (µs) | Plain Rust (µs) | Ratio |
+|---|---|---|---|---|---|---|---|
+".to_string();
+    for one in measured {
+        let (name, n, m) = (&one.input.name, one.input.n, one.input.m);
+        for call in [Call::Check, Call::Order] {
+            for times in one.all_of(call) {
+                let (call, links, cells) = (call.name(), times.timed.links.name(), cells(times));
+                add(
+                    &mut text,
+                    &format!("| {name} | {n} | {m} | {call} | {links} | {cells} |"),
+                );
+            }
+        }
+    }
+    text
+}
+
 /// One table for each call: random networks with four links for each member, doubled from row to row.
 fn growth_tables(growth: &[Measured]) -> String {
     let mut text = "Random networks with n = m / 4. The step is the library's time divided by that for half as many links.\n".to_string();
-    for call in Call::ALL {
-        let title = format!("\n### {}\n", call.name());
+    for timed in Timed::all() {
+        let title = format!("\n### {}\n", timed.name());
         add(&mut text, &title);
         let head = "| m | Library (µs) | Step | Plain Rust (µs) | Ratio |\n|---|---|---|---|---|";
         add(&mut text, head);
         let mut before = None;
         for measured in growth {
-            let (times, m) = (measured.of(call), measured.input.m);
+            let (times, m) = (measured.of(timed), measured.input.m);
             let (library, plain, ratio) = (times.library, times.plain, times.ratio());
             let step = before.map_or(String::new(), |half: f64| format!("{:.2}", library / half));
             let line = format!("| {m} | {library:.1} | {step} | {plain:.1} | {ratio:.2} |");

@@ -1,7 +1,7 @@
 //! The two sides that are measured, called alike.
-use crate::inputs::Input;
+use crate::inputs::{Input, Links};
 use crate::plain::{Index, Plain, Refusal};
-use cogsplice::{lent, work_length};
+use cogsplice::{file_length, lent, work_length};
 
 /// The x and y of the core that is measured, and the number whose level is.
 const CORE: [u16; 2] = [2, 2];
@@ -17,11 +17,12 @@ pub enum Call {
     Check,
     Index,
     Write,
+    Order,
     Count,
 }
 
 impl Call {
-    pub const ALL: [Call; 9] = [
+    pub const ALL: [Call; 10] = [
         Call::Finding,
         Call::Layers,
         Call::Harmonic,
@@ -30,6 +31,7 @@ impl Call {
         Call::Check,
         Call::Index,
         Call::Write,
+        Call::Order,
         Call::Count,
     ];
 
@@ -46,8 +48,49 @@ impl Call {
             Call::Check => "check",
             Call::Index => "index",
             Call::Write => "write",
+            Call::Order => "order",
             Call::Count => "count",
         }
+    }
+}
+
+/// What is timed: a call, on the file of a network in which the links stand so.
+#[derive(Clone, Copy, PartialEq, Eq)]
+pub struct Timed {
+    pub call: Call,
+    pub links: Links,
+}
+
+impl Timed {
+    /// The calls that are timed on links that do not ascend.
+    pub const UNORDERED: [Timed; 3] = [
+        Timed {
+            call: Call::Check,
+            links: Links::Shuffled,
+        },
+        Timed {
+            call: Call::Check,
+            links: Links::Repeating,
+        },
+        Timed {
+            call: Call::Order,
+            links: Links::Shuffled,
+        },
+    ];
+
+    pub fn ascending(call: Call) -> Self {
+        let links = Links::Ascending;
+        Self { call, links }
+    }
+
+    /// Every call on links that ascend, then those on links that do not.
+    pub fn all() -> Vec<Self> {
+        let ascending = Call::ALL.into_iter().map(Self::ascending);
+        ascending.chain(Self::UNORDERED).collect()
+    }
+
+    pub fn name(self) -> String {
+        self.links.of(self.call.name())
     }
 }
 
@@ -61,6 +104,8 @@ pub struct Tables {
     t: Vec<u8>,
     layers: Vec<u16>,
     out: Vec<u8>,
+    /// The output of `order`: the ascending file.
+    pub ordered: Vec<u8>,
     out_starts: Vec<u16>,
     out_rows: Vec<u16>,
     in_starts: Vec<u16>,
@@ -75,7 +120,8 @@ impl Tables {
             s: vec![full; input.n],
             t: vec![full; input.n],
             layers: wide(input.m),
-            out: vec![full; input.file.len()],
+            out: vec![full; file_length(input.m)],
+            ordered: vec![full; file_length(input.m)],
             out_starts: wide(input.n + 1),
             out_rows: wide(input.m),
             in_starts: wide(input.n + 1),
@@ -105,9 +151,7 @@ impl Side for Library {
     }
 
     fn call(&mut self, call: Call, file: &[u8], input: &Input) -> Numbers {
-        let Tables {
-            s, t, layers, out, ..
-        } = &mut self.tables;
+        let Tables { s, t, layers, .. } = &mut self.tables;
         let (a, b, work) = (&input.a, &input.b, &mut self.work);
         match call {
             Call::Finding => finding_numbers(lent::finding(file, a, b, s, t, work)),
@@ -129,10 +173,8 @@ impl Side for Library {
                 numbers(told.refusal, told.link, [told.n, told.m])
             }
             Call::Index => self.index(file),
-            Call::Write => {
-                let told = lent::write(file, out);
-                numbers(told.refusal, told.link, [told.m])
-            }
+            Call::Write => write_numbers(lent::write(file, &mut self.tables.out)),
+            Call::Order => write_numbers(lent::order(file, &mut self.tables.ordered)),
             Call::Count => totals_numbers(lent::count(file, &input.s, &input.t)),
         }
     }
@@ -162,6 +204,10 @@ fn numbers<const K: usize>(refusal: u16, link: u16, values: [usize; K]) -> Numbe
     numbers[1] = link.into();
     numbers[2..2 + K].copy_from_slice(&values);
     numbers
+}
+
+fn write_numbers(told: lent::WriteNumbers) -> Numbers {
+    numbers(told.refusal, told.link, [told.m])
 }
 
 fn totals_numbers(told: lent::TotalsNumbers) -> Numbers {
@@ -208,6 +254,7 @@ impl Side for PlainRust {
             Call::Check => told(plain.check(file)),
             Call::Index => told(plain.index(file, index_of(tables))),
             Call::Write => told(plain.write(file, &mut tables.out)),
+            Call::Order => told(plain.order(file, &mut tables.ordered)),
             Call::Count => told(plain.count(file, &input.s, &input.t)),
         }
     }

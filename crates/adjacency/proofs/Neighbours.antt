@@ -25,6 +25,7 @@ use Rattle.adjacency.specs.Calls.{RowCall, bySide}
 use Rattle.adjacency.specs.Neighbours.{neighbours}
 use Rattle.adjacency.proofs.Refusals.{Row, row-accepted}
 use Rattle.network.specs.Accepted.{Accepted}
+use Rattle.network.proofs.Accepted.{accepted-distinct}
 use Rattle.adjacency.proofs.Places.{place, place-first, place-last, rows-to}
 
 -- starts ascend
@@ -101,6 +102,6 @@ module _ (g : Graph) (p q : List ℕ) (u : ℕ) (l : u < g .order) where
 -- in the tables that the index call fills for an accepted file, the row of a vertex is its neighbours, ascending, from either side
 pub file-neighbours : {f : List ℕ} → Accepted f → (side : Side) (os or is ir : List ℕ) (u : ℕ) → u < graphOf f .order → {r : List ℕ} → let g = graphOf f in
     RowCall (bySide side (starts g ++ os) (starts (reverse g) ++ is)) (bySide side (rows g ++ or) (rows (reverse g) ++ ir)) u r → r ≡ neighbours (seen side g) u
-file-neighbours {f} a Source os or is ir u l c = index-neighbours (graphOf f) os or u l (a .sound .closed) (a .simple) c
+file-neighbours {f} a Source os or is ir u l c = index-neighbours (graphOf f) os or u l (a .sound .closed) (accepted-distinct a .simple) c
 file-neighbours {f} a Target os or is ir u l c =
-    index-neighbours (reverse (graphOf f)) is ir u l (closed-reverse (a .sound .closed)) (λ d e m n s t. a .simple d e m n t s) c
+    index-neighbours (reverse (graphOf f)) is ir u l (closed-reverse (a .sound .closed)) (λ d e m n s t. accepted-distinct a .simple d e m n t s) c

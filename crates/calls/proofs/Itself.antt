@@ -1,4 +1,5 @@
--- A file whose edges ascend as they stand is written byte for byte as it is, and zero bytes as the header of a file with no vertex and no edge.
+-- A file is its header and its edges as they stand. So one whose edges ascend is written byte for byte as it is, and zero bytes as the header of
+-- a file with no vertex and no edge; and two whose edges ascend hold the same links exactly when their bytes are equal.
 use Prim.Native.Nat.{ℕ, zero, suc, _+_, _/_, _%_, _<_, _≤_}
 use mathlib.Core.Bool.{true, _&&_}
 use mathlib.Core.List.{List, [], _∷_, _++_, append-assoc, append-nil}
@@ -10,13 +11,20 @@ use lib.Dec.{eqb}
 use lib.ListN.{length, getD, drop}
 use lib.Seq.{drop-cons, drop-length}
 use Rattle.graph.specs.Range.{flat}
+use Rattle.graph.specs.Graph.{Graph, SameLinks}
+use Rattle.graph.specs.Order.{Ascending}
 use Rattle.graph.proofs.Tests.{and-left, and-right}
 use Rattle.graph.proofs.Ranges.{flat-ext}
-use Rattle.graph.proofs.Ascending.{ascending-edgeAt}
+use Rattle.graph.proofs.Ascending.{ascending-edgeAt, Alike, ascending-alike}
 use Rattle.network.specs.File.{u16At, linkAt, graphOf, mark, marked}
-use Rattle.network.specs.Bytes.{u16, header, edgeBytes, edgesBytes, written}
+use Rattle.network.specs.Bytes.{u16, header, edgeBytes, written}
 use Rattle.network.specs.Accepted.{Headed}
-use Rattle.graph.specs.Order.{Ascending}
+use Rattle.network.proofs.Accepted.{accepted}
+use Rattle.calls.specs.Calls.{Filed, OneOrder}
+
+-- the file with its edges as they stand
+abbrev standing : Graph → List ℕ
+standing g = header (g .order) (g .size) ++ flat (λ e. edgeBytes (g .source e) (g .target e)) (g .size)
 
 -- the mark, before what comes after it
 mark-front : (f : List ℕ) → 9 ≤ length f → marked mark f ≡ true → 0x56 ∷ 0x43 ∷ 0x48 ∷ drop 3 f ≡ f
@@ -65,22 +73,47 @@ module _ (f : List ℕ) (bytes : (i : ℕ) → getD f i 0 < 256) where
       ∙ number-front 3 5 refl (omega (arith, a .long)))
       ∙ mark-front f (a .long) (a .is-marked)
 
-  -- the edges in ascending order are all the bytes after the header
-  links-itself : Headed f → Ascending (graphOf f) → edgesBytes (graphOf f) ≡ drop 9 f
-  links-itself a next =
+  -- so a file is its header and its edges as they stand
+  pub standing-itself : Headed f → standing (graphOf f) ≡ f
+  standing-itself a =
       let g = graphOf f in
       let last : drop (linkAt (g .size)) f ≡ [] = ap (λ k. drop k f) (sym (a .exact)) ∙ drop-length f in
-      flat-ext (g .size) (λ i l. ap bytesAt (ascending-edgeAt g next i l))
-      ∙ sym (append-nil (flat bytesAt (g .size)))
-      ∙ ap (λ t. flat bytesAt (g .size) ++ t) (sym last)
-      ∙ edges-front (g .size) (omega (arith, a .exact))
+      ap (λ t. header (g .order) (g .size) ++ t)
+      (sym (append-nil (flat bytesAt (g .size))) ∙ ap (λ t. flat bytesAt (g .size) ++ t) (sym last) ∙ edges-front (g .size) (omega (arith, a .exact)))
+      ∙ header-front a
 
-  -- a file that ascends is the written one
-  pub written-itself : Headed f → Ascending (graphOf f) → written (graphOf f) ≡ f
-  written-itself a next = ap (λ t. header (graphOf f .order) (graphOf f .size) ++ t) (links-itself a next) ∙ header-front a
+-- edges that ascend are written as they stand
+written-standing : (g : Graph) → Ascending g → written g ≡ standing g
+written-standing g next =
+    ap (λ t. header (g .order) (g .size) ++ t) (flat-ext (g .size) (λ i l. ap (λ e. edgeBytes (g .source e) (g .target e)) (ascending-edgeAt g next i l)))
+
+-- so a file whose edges ascend is the written one
+pub written-itself : (f : List ℕ) → ((i : ℕ) → getD f i 0 < 256) → Headed f → Ascending (graphOf f) → written (graphOf f) ≡ f
+written-itself f bytes a next = written-standing (graphOf f) next ∙ standing-itself f bytes a
 
 -- zero bytes are written as a header alone
 pub written-quiet : (f : List ℕ) → length f ≡ 0 → written (graphOf f) ≡ header 0 0
 unfolding flat
 written-quiet [] e = refl
 written-quiet (b ∷ r) e = absurd (omega arith)
+
+-- edges that are the same in the same order stand as the same bytes
+standing-alike : (g h : Graph) → g .order ≡ h .order → Alike g h → standing g ≡ standing h
+standing-alike g h n a =
+    rw (n, a .size) (ap (λ t. header (h .order) (h .size) ++ t) (flat-ext (h .size) (λ e l. let k : e < g .size = rw (a .size) l in rw (a .source e k, a .target e k))))
+
+-- 02, wish 7: with the same n, two accepted files hold the same links exactly when their bytes are equal
+pub one-order : OneOrder
+one-order f f′ a b n = (equal, λ e u v. (λ l. rw e at l, λ l. rw (← e) at l))
+  where
+    headed : (f : List ℕ) → Filed f → Headed f
+    headed f a = accepted f .0 (a .accepted) .sound .header .headed (a .some)
+
+    ascends : (f : List ℕ) → Filed f → Ascending (graphOf f)
+    ascends f a = accepted f .0 (a .accepted) .ascending
+
+    equal : SameLinks (graphOf f) (graphOf f′) → f ≡ f′
+    equal same =
+        sym (standing-itself f (a .bytes) (headed f a))
+        ∙ standing-alike (graphOf f) (graphOf f′) n (ascending-alike (graphOf f) (graphOf f′) (ascends f a) (ascends f′ b) same)
+        ∙ standing-itself f′ (b .bytes) (headed f′ b)

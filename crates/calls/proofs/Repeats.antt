@@ -1,6 +1,6 @@
 -- Repeated edges: in the ascending order an edge that repeats an earlier one stands right after one that is the same.
 use Prim.Native.Nat.{ℕ, zero, suc, _+_, _-_, _<_, _≤_}
-use mathlib.Core.Bool.{Bool, true, false, cond, _&&_, Bool-discrete, false≢true}
+use mathlib.Core.Bool.{Bool, true, false, cond, _&&_, false≢true}
 use mathlib.Core.Logic.{_≢_}
 use mathlib.Core.Path.{_≡_, refl, sym, ap, _∙_}
 use native.Mathlib.Decide.{decLe, ℕ-discrete}
@@ -13,7 +13,7 @@ use Rattle.graph.specs.Range.{first}
 use Rattle.graph.specs.Graph.{Graph}
 use Rattle.graph.specs.Order.{precedes, edgeAt}
 use Rattle.graph.specs.Sorting.{rank}
-use Rattle.graph.proofs.Tests.{and-left, and-right, and-both}
+use Rattle.graph.proofs.Tests.{and-left, and-right, and-both, test-fails}
 use Rattle.graph.proofs.Sums.{below-suc}
 use Rattle.graph.proofs.Ranges.{first-passes, first-some, first-is}
 use Rattle.graph.proofs.Order.{lexicographic-same, lexicographic-either, precedes-strict, rank-lt, rank-injective, rank-mono, rank-less, rank-nth, nth-rank, edgeAt-lt, edgeAt-ascending}
@@ -94,15 +94,11 @@ pub least-repeat : (g : Graph) (k : ℕ) → k ≤ g .size → (k < g .size → 
     → ((i : ℕ) → suc i < g .size → same g (edgeAt g i) (edgeAt g (suc i)) ≡ true → k ≤ edgeAt g (suc i)) → k ≡ repeat g
 least-repeat g k l some least = sym (first-is (repeats g) (g .size) k l none some)
   where
-    none : (e : ℕ) → e < k → repeats g e ≡ false
-    none e m = elim (Bool-discrete (repeats g e) true) [ yes h ↦ absurd (late e m (repeats-neighbour g e (omega arith) h)) | no h ↦ not-holds (repeats g e) h ]
-      where
-        late : (e : ℕ) → e < k → (i : ℕ) × (suc i < g .size) × (edgeAt g (suc i) ≡ e) × (same g (edgeAt g i) e ≡ true) → ⊥
-        late e m (i, n, q, h) = omega (arith, least i n (rw q h))
+    late : (e : ℕ) → e < k → (i : ℕ) × (suc i < g .size) × (edgeAt g (suc i) ≡ e) × (same g (edgeAt g i) e ≡ true) → ⊥
+    late e m (i, n, q, h) = omega (arith, least i n (rw q h))
 
-        not-holds : (b : Bool) → (b ≡ true → ⊥) → b ≡ false
-        not-holds true h = absurd (h refl)
-        not-holds false h = refl
+    none : (e : ℕ) → e < k → repeats g e ≡ false
+    none e m = test-fails (repeats g e) (λ h. late e m (repeats-neighbour g e (omega arith) h))
 
 -- k is the least edge that stands right after one that is the same, of those before place i, or the number of edges
 pub record Least (g : Graph) (i k : ℕ) : Type 0 where

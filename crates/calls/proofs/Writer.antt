@@ -1,4 +1,4 @@
--- The writer: each refusal under its condition; and a file written and read again holds the same links.
+-- The calls that write a file: each refusal under its condition; and a file written and read again holds the same links.
 use Prim.Native.Nat.{ℕ, _<_, _≤_}
 use mathlib.Core.List.{List, _++_}
 use mathlib.Core.Logic.{_≢_}
@@ -9,33 +9,34 @@ use lib.ListN.{length, drop}
 use lib.Seq.{sets, take-at}
 use Rattle.graph.specs.Graph.{Graph}
 use Rattle.network.specs.declared.Refusal.{Refusal}
-use Rattle.network.specs.File.{linkAt, graphOf, none, plain, fileRefusal}
+use Rattle.network.specs.File.{linkAt, graphOf, none, plain}
 use Rattle.network.specs.Bytes.{written}
-use Rattle.network.specs.Refusals.{writeRefusal}
-use Rattle.network.specs.Accepted.{Accepted}
-use Rattle.network.proofs.Accepted.{accepted}
-use Rattle.network.proofs.Answers.{orElse-found, orElse-second}
+use Rattle.network.specs.Refusals.{outRefusal}
+use Rattle.network.specs.Accepted.{Distinct, Accepted}
+use Rattle.network.proofs.Accepted.{accepted-distinct, old-accepted, accepted}
+use Rattle.network.proofs.Answers.{call-done, orElse-found, orElse-second}
 use Rattle.network.proofs.Puts.{sets-front}
 use Rattle.network.proofs.Written.{length-written, written-order, written-size, written-linked, written-edges, written-accepted, written-ascending}
-use Rattle.calls.specs.Calls.{ReadAgain, Rewritten}
+use Rattle.calls.specs.declared.WriteAnswer.{WriteAnswer}
+use Rattle.calls.specs.Calls.{ReadAgain, Rewritten, WriteCall, OrderCall}
 
--- the file's own refusal comes first
-pub write-file : (f : List ℕ) (o : ℕ) {q : Refusal} → q ≡ fileRefusal f → q .number ≢ 0 → q ≡ writeRefusal f o
-unfolding writeRefusal
-write-file f o = orElse-found _
+-- the refusal of what is read comes first
+pub out-read : {r q : Refusal} (m o : ℕ) → q ≡ r → q .number ≢ 0 → q ≡ outRefusal r m o
+unfolding outRefusal
+out-read m o = orElse-found _
 
 -- then 9 for a short output
-pub write-short : (f : List ℕ) (o : ℕ) → fileRefusal f ≡ none → o < linkAt (graphOf f .size) → plain 9 ≡ writeRefusal f o
-unfolding writeRefusal
-write-short f o e l = sym (orElse-second _ e ∙ rw (lt-ltb o (linkAt (graphOf f .size)) l))
+pub out-short : {r : Refusal} (m o : ℕ) → r ≡ none → o < linkAt m → plain 9 ≡ outRefusal r m o
+unfolding outRefusal
+out-short m o e l = sym (orElse-second _ e ∙ rw (lt-ltb o (linkAt m) l))
 
 -- else none
-pub write-none : (f : List ℕ) (o : ℕ) → fileRefusal f ≡ none → linkAt (graphOf f .size) ≤ o → writeRefusal f o ≡ none
-unfolding writeRefusal
-write-none f o e l = orElse-second _ e ∙ rw (le-ltb o (linkAt (graphOf f .size)) l)
+pub out-none : {r : Refusal} (m o : ℕ) → r ≡ none → linkAt m ≤ o → outRefusal r m o ≡ none
+unfolding outRefusal
+out-none m o e l = orElse-second _ e ∙ rw (le-ltb o (linkAt m) l)
 
 -- condition 2, last sentence: a file written and read again holds the same links
-read-again : {f : List ℕ} → Accepted f → ReadAgain f (written (graphOf f))
+pub read-again : {f : List ℕ} → Distinct f → ReadAgain f (written (graphOf f))
 read-again {f} a =
     let g = graphOf f in
     record {
@@ -48,7 +49,7 @@ read-again {f} a =
     }
 
 -- the file stored over the first bytes of the output stands before the rest, and can be read again
-pub rewritten : {f : List ℕ} (out : List ℕ) {out′ : List ℕ} {m : ℕ} → Accepted f → linkAt (graphOf f .size) ≤ length out → m ≡ graphOf f .size
+pub rewritten : {f : List ℕ} (out : List ℕ) {out′ : List ℕ} {m : ℕ} → Distinct f → linkAt (graphOf f .size) ≤ length out → m ≡ graphOf f .size
     → out′ ≡ sets out 0 (written (graphOf f)) → Rewritten f out out′ m
 rewritten {f} out {out′} a l e q = rw e (record { size = refl; file = file; again = rw (file, take-at (written g) (drop (linkAt (g .size)) out) (linkAt (g .size)) (length-written g)) (read-again a) })
   where
@@ -57,3 +58,8 @@ rewritten {f} out {out′} a l e q = rw e (record { size = refl; file = file; ag
 
     file : out′ ≡ written g ++ drop (linkAt (g .size)) out
     file = q ∙ sets-front out (written g) (omega (arith, length-written g)) ∙ ap (λ k. written g ++ drop k out) (length-written g)
+
+-- the writer of an accepted file is the conversion of it: neither rule refuses the file
+pub order-accepted : (f out out′ : List ℕ) {r : WriteAnswer} → Accepted f → WriteCall f out out′ r → OrderCall f out out′ r
+order-accepted f out out′ a =
+    call-done (ap (λ q. outRefusal q (graphOf f .size) (length out)) (accepted f .1 a ∙ sym (old-accepted f .1 (accepted-distinct a)))) (λ v n d. d)

@@ -1,6 +1,5 @@
-// The check of a file: the numbers 1 to 8, in order.
+// The check of a file: the numbers 1 to 8, which are those of the old rule, and 15.
 use crate::CheckAnswer;
-use crate::FileState;
 use network::MOST_LINKS;
 use network::MOST_MEMBERS;
 use network::Refusal;
@@ -12,20 +11,18 @@ use network::order_of;
 use network::size_of;
 use network::u16_at;
 use network::wide16;
-use ordering::count_up;
-use ordering::order;
+use ordering::order_edges;
 ghost use mathlib.Core.Path.{_≡_};
 ghost use mathlib.Core.Logic.{_≢_};
-ghost use mathlib.Core.Bool.{true, false, cond, _&&_};
-ghost use Prim.Native.Nat.{_≤_};
+ghost use mathlib.Core.Bool.{true, cond, _&&_};
+ghost use Prim.Native.Nat.{_<_, _≤_};
 ghost use lib.Dec.{ltb};
 ghost use lib.ListN.{length};
-ghost use Rattle.graph.specs.Shapes.{Closed};
-ghost use Rattle.graph.specs.Order.{precedes, ascends, Ascending};
+ghost use Rattle.graph.specs.Order.{precedes, ascends};
 ghost use Rattle.graph.specs.Sorting.{Sorted};
-ghost use Rattle.network.specs.File.{mostLinks, graphOf, outside, same, repeat, none, fileRefusal};
-ghost use Rattle.network.specs.Accepted.{Header, Sound, Holds};
-ghost use Rattle.calls.specs.Headers.{HeaderNumber};
+ghost use Rattle.network.specs.File.{mostLinks, graphOf, outside, same, repeat, oldRefusal, fileRefusal};
+ghost use Rattle.network.specs.Accepted.{Header, Sound, Accepted, Holds};
+ghost use Rattle.calls.specs.Headers.{HeaderNumber, keyOf, FallsAt};
 ghost use Rattle.calls.specs.Calls.{CheckCall};
 
 // The number that the first 9 bytes and the length give, 1 to 6, or 0. Zero bytes count as a file (02, wish 3).
@@ -57,29 +54,8 @@ fn header_number(file: &[u8]) -> u16
     0
 }
 
-fn greater(a: u16, b: u16) -> u16
-    ensures { λ r. ⌜ (a ≤ r) × (b ≤ r) ⌝ }
-{
-    if a < b { b } else { a }
-}
-
-// Whether every end is below n, by the greatest: a pass with no way out of it can look at many ends at once.
-fn is_inside(file: &[u8]) -> bool
-    requires { ⌜ Header (now file) ⌝ }
-    ensures { λ r. ⌜ (r ≡ true → Closed (graphOf (now (file .entry)))) ⌝ }
-{
-    let size = size_of(file);
-    let mut source: u16 = 0;
-    let mut target: u16 = 0;
-    for e in 0..size {
-        source = greater(source, end_at(file, Side::Source, e) as u16);
-        target = greater(target, end_at(file, Side::Target, e) as u16);
-    }
-    wide16(greater(source, target)) < order_of(file)
-}
-
-// The first edge that names a vertex not below n, or m, by a pass that ends there.
-fn search_outside(file: &[u8]) -> usize
+// The first edge that names a vertex not below n, or m.
+fn first_outside(file: &[u8]) -> usize
     requires { ⌜ Header (now file) ⌝ }
     ensures { λ r. ⌜ r ≡ outside (graphOf (now (file .entry))) ⌝ }
 {
@@ -96,17 +72,6 @@ fn search_outside(file: &[u8]) -> usize
     size
 }
 
-// The first edge that names a vertex not below n, or m.
-fn first_outside(file: &[u8]) -> usize
-    requires { ⌜ Header (now file) ⌝ }
-    ensures { λ r. ⌜ r ≡ outside (graphOf (now (file .entry))) ⌝ }
-{
-    if is_inside(file) {
-        return size_of(file);
-    }
-    search_outside(file)
-}
-
 fn is_same(file: &[u8], d: usize, e: usize) -> bool
     requires { ⌜ Holds (now file) d × Holds (now file) e ⌝ }
     ensures { λ r. ⌜ r ≡ same (graphOf (now (file .entry))) d e ⌝ }
@@ -117,36 +82,77 @@ fn is_same(file: &[u8], d: usize, e: usize) -> bool
     end_at(file, Side::Target, d) == end_at(file, Side::Target, e)
 }
 
+// An edge as one number, by which edges are compared: by source, then by target.
+fn key_at(file: &[u8], edge: usize) -> usize
+    requires { ⌜ Holds (now file) edge ⌝ }
+    ensures { λ r. ⌜ (r ≡ keyOf (graphOf (now (file .entry))) edge) × (r < 4294967296) ⌝ }
+    ensures { λ _. ⌜ graphOf (now (file .entry)) .target edge < 65536 ⌝ }
+{
+    65536 * end_at(file, Side::Source, edge) + end_at(file, Side::Target, edge)
+}
+
 // Whether edge d comes before edge e and is not the same.
 fn is_before(file: &[u8], d: usize, e: usize) -> bool
     requires { ⌜ Holds (now file) d × Holds (now file) e ⌝ }
     ensures { λ r. ⌜ r ≡ ascends (graphOf (now (file .entry))) d e ⌝ }
 {
-    let source = end_at(file, Side::Source, d);
-    let next = end_at(file, Side::Source, e);
-    if source < next {
-        return true;
-    }
-    if next < source {
-        return false;
-    }
-    end_at(file, Side::Target, d) < end_at(file, Side::Target, e)
+    key_at(file, d) < key_at(file, e)
 }
 
-// Whether each edge comes before the next: then no edge repeats another, and nothing has to be sorted to see it.
-fn is_ascending(file: &[u8]) -> bool
+fn greater(a: usize, b: usize) -> usize
+    ensures { λ r. ⌜ (a ≤ r) × (b ≤ r) ⌝ }
+{
+    if a < b { b } else { a }
+}
+
+// Whether the edges ascend and end below n, in one pass: each has at least the key `next`, one more than that of the edge before it, and a target
+// below `most`. Of edges that ascend the last has the greatest source.
+fn is_ordered(file: &[u8]) -> bool
+    requires { ⌜ Header (now file) ⌝ }
+    ensures { λ r. ⌜ (r ≡ true → Accepted (now (file .entry))) ⌝ }
+{
+    let size = size_of(file);
+    let mut next = 0;
+    let mut most = 0;
+    for e in 0..size {
+        let key = key_at(file, e);
+        if key < next {
+            return false;
+        }
+        next = key + 1;
+        most = greater(most, end_at(file, Side::Target, e) + 1);
+    }
+    let order = order_of(file);
+    if order < most {
+        return false;
+    }
+    next <= 65536 * order
+}
+
+// Whether a file is accepted, as far as one pass tells: a file in order is, and no other.
+pub fn is_accepted(file: &[u8]) -> bool
+    ensures { λ r. ⌜ (r ≡ true → Accepted (now (file .entry))) ⌝ }
+{
+    if header_number(file) != 0 {
+        return false;
+    }
+    is_ordered(file)
+}
+
+// Where edges stop ascending: the first that does not come after the one preceding it, or m.
+fn first_fall(file: &[u8]) -> usize
     requires { ⌜ Sound (now file) ⌝ }
-    ensures { λ r. ⌜ (r ≡ true → Ascending (graphOf (now (file .entry)))) ⌝ }
+    ensures { λ r. ⌜ FallsAt (graphOf (now (file .entry))) r ⌝ }
 {
     let size = size_of(file);
     let mut e = 1;
     while e < size {
         if !is_before(file, e - 1, e) {
-            return false;
+            return e;
         }
         e += 1;
     }
-    true
+    size
 }
 
 // `edge` where it is less than `least` and repeats the edge before it, else `least`.
@@ -190,50 +196,31 @@ fn first_repeat(file: &[u8], sorted: &mut [u16]) -> usize
     ensures { λ _. ⌜ Sorted (precedes (graphOf (now (file .entry)))) (graphOf (now (file .entry)) .size) (now (sorted .exit)) ⌝ }
     ensures { λ _. ⌜ length (now (sorted .exit)) ≡ length (now (sorted .entry)) ⌝ }
 {
-    order(file, Side::Source, sorted);
+    order_edges(file, Side::Source, sorted);
     least_repeat(file, sorted)
 }
 
-// A refusal, or none, of a file that is not known to ascend.
-fn unordered(refusal: Refusal) -> FileState
-    ensures { λ r. ⌜ (r .refusal ≡ refusal) × (r .ascending ≡ false) ⌝ }
-{
-    FileState {
-        refusal,
-        ascending: false,
-    }
-}
-
-// What can be told without an order: a refusal by 1 to 7, or that the edges ascend and so none repeats another. Else no edge is outside, and only 8
-// is left to be tested.
-fn front_state(file: &[u8]) -> FileState
-    ensures { λ r. ⌜ (r .refusal .number ≢ 0 → r .refusal ≡ fileRefusal (now (file .entry))) ⌝ }
-    ensures { λ r. ⌜ (r .ascending ≡ true → Ascending (graphOf (now (file .entry))) × (r .refusal ≡ fileRefusal (now (file .entry)))) ⌝ }
-    ensures { λ r. ⌜ (r .refusal .number ≡ 0 → Sound (now (file .entry))) ⌝ }
+// 1 to 7, or none: then every edge can be read.
+fn front_refusal(file: &[u8]) -> Refusal
+    ensures { λ r. ⌜ (r .number ≢ 0 → r ≡ oldRefusal (now (file .entry))) ⌝ }
+    ensures { λ r. ⌜ (r .number ≡ 0 → Sound (now (file .entry))) ⌝ }
 {
     let number = header_number(file);
     if number != 0 {
-        return unordered(Refusal::plain(number));
+        return Refusal::plain(number);
     }
-    let size = size_of(file);
     let outside = first_outside(file);
-    if outside < size {
-        return unordered(Refusal::at(7, outside));
+    if outside < size_of(file) {
+        return Refusal::at(7, outside);
     }
-    if is_ascending(file) {
-        return FileState {
-            refusal: Refusal::none(),
-            ascending: true,
-        };
-    }
-    unordered(Refusal::none())
+    Refusal::none()
 }
 
-// 8 or none, of a file that passes the other tests. The order that shows it is left for the caller.
+// 8 or none, of a file that passes the tests before it. The order that shows it is left for the caller.
 fn repeat_refusal(file: &[u8], sorted: &mut [u16]) -> Refusal
     requires { ⌜ Sound (now file) ⌝ }
     requires { ⌜ mostLinks ≤ length (now sorted) ⌝ }
-    ensures { λ r. ⌜ r ≡ fileRefusal (now (file .entry)) ⌝ }
+    ensures { λ r. ⌜ r ≡ oldRefusal (now (file .entry)) ⌝ }
     ensures { λ _. ⌜ Sorted (precedes (graphOf (now (file .entry)))) (graphOf (now (file .entry)) .size) (now (sorted .exit)) ⌝ }
     ensures { λ _. ⌜ length (now (sorted .exit)) ≡ length (now (sorted .entry)) ⌝ }
 {
@@ -244,59 +231,51 @@ fn repeat_refusal(file: &[u8], sorted: &mut [u16]) -> Refusal
     Refusal::none()
 }
 
-// The refusal that the file's own bytes give, and whether its edges ascend as they stand. Where it gives none and they do not, they had to be
-// sorted, and `sorted` holds their order.
-pub fn file_state(file: &[u8], sorted: &mut [u16]) -> FileState
+// The refusal by the old rule, and where it is none the edges in order.
+pub fn old_refusal(file: &[u8], sorted: &mut [u16]) -> Refusal
     requires { ⌜ mostLinks ≤ length (now sorted) ⌝ }
-    ensures { λ r. ⌜ r .refusal ≡ fileRefusal (now (file .entry)) ⌝ }
-    ensures { λ r. ⌜ (r .ascending ≡ true → Ascending (graphOf (now (file .entry)))) ⌝ }
-    ensures { λ r. ⌜ (r .refusal ≡ none → r .ascending ≡ false → Sorted (precedes (graphOf (now (file .entry)))) (graphOf (now (file .entry)) .size) (now (sorted .exit))) ⌝ }
+    ensures { λ r. ⌜ r ≡ oldRefusal (now (file .entry)) ⌝ }
+    ensures { λ r. ⌜ (r .number ≡ 0 → Sorted (precedes (graphOf (now (file .entry)))) (graphOf (now (file .entry)) .size) (now (sorted .exit))) ⌝ }
     ensures { λ _. ⌜ length (now (sorted .exit)) ≡ length (now (sorted .entry)) ⌝ }
 {
-    let state = front_state(file);
-    if state.refusal.number != 0 {
-        return state;
-    }
-    if state.ascending {
-        return state;
-    }
-    FileState {
-        refusal: repeat_refusal(file, sorted),
-        ..state
-    }
-}
-
-// The refusal that the file's own bytes give. Every call on a file begins with it. The table to sort in is made only where it is needed.
-pub fn file_refusal(file: &[u8]) -> Refusal
-    ensures { λ r. ⌜ r ≡ fileRefusal (now (file .entry)) ⌝ }
-{
-    let state = front_state(file);
-    if state.refusal.number != 0 {
-        return state.refusal;
-    }
-    if state.ascending {
-        return state.refusal;
-    }
-    let mut sorted = [0u16; MOST_LINKS];
-    repeat_refusal(file, &mut sorted)
-}
-
-// The same refusal, and where it is none the edges in order, for the calls that need them so: edges that ascend are in order by their numbers.
-pub fn refusal_with_order(file: &[u8], sorted: &mut [u16]) -> Refusal
-    requires { ⌜ mostLinks ≤ length (now sorted) ⌝ }
-    ensures { λ r. ⌜ r ≡ fileRefusal (now (file .entry)) ⌝ }
-    ensures { λ r. ⌜ (r ≡ none → Sorted (precedes (graphOf (now (file .entry)))) (graphOf (now (file .entry)) .size) (now (sorted .exit))) ⌝ }
-    ensures { λ _. ⌜ length (now (sorted .exit)) ≡ length (now (sorted .entry)) ⌝ }
-{
-    let state = file_state(file, sorted);
-    let refusal = state.refusal;
+    let refusal = front_refusal(file);
     if refusal.number != 0 {
         return refusal;
     }
-    if state.ascending {
-        count_up(size_of(file), sorted);
+    repeat_refusal(file, sorted)
+}
+
+// 8, 15 or none, of a file that passes the tests before them. Where no edge repeats another, the one at which they stop ascending comes before the
+// one preceding it.
+fn order_refusal(file: &[u8]) -> Refusal
+    requires { ⌜ Sound (now file) ⌝ }
+    ensures { λ r. ⌜ r ≡ fileRefusal (now (file .entry)) ⌝ }
+{
+    let mut sorted = [0u16; MOST_LINKS];
+    let refusal = repeat_refusal(file, &mut sorted);
+    if refusal.number != 0 {
+        return refusal;
     }
-    refusal
+    let fall = first_fall(file);
+    if fall < size_of(file) {
+        return Refusal::at(15, fall);
+    }
+    Refusal::none()
+}
+
+// The refusal that the file's own bytes give. Every call on a file begins with it. A file in order is told in one pass; only for others are the
+// numbers tested one by one, and the edges sorted.
+pub fn file_refusal(file: &[u8]) -> Refusal
+    ensures { λ r. ⌜ r ≡ fileRefusal (now (file .entry)) ⌝ }
+{
+    if is_accepted(file) {
+        return Refusal::none();
+    }
+    let refusal = front_refusal(file);
+    if refusal.number != 0 {
+        return refusal;
+    }
+    order_refusal(file)
 }
 
 // 01: the check of a file.

@@ -1,6 +1,7 @@
-// The calls on a file alone: check, count and write.
+// The calls on a file alone: check, count and write, and order, which reads a file by the old rule.
 mod checks;
 mod counts;
+mod orders;
 mod writes;
 
 use network::Refusal;
@@ -11,21 +12,15 @@ pub enum CheckAnswer {
     Refused(Refusal),
 }
 
-// What the writer answers: m, or the refusal.
+// What the calls that write a file answer: m, or the refusal.
 pub enum WriteAnswer {
     Written { size: usize },
     Refused(Refusal),
 }
 
-// What a file's own bytes tell: the refusal that they give, and whether the edges ascend as they stand.
-pub struct FileState {
-    pub refusal: Refusal,
-    pub ascending: bool,
-}
-
 pub use checks::check;
 pub use checks::file_refusal;
-pub use checks::refusal_with_order;
 pub use counts::are_groups;
 pub use counts::count;
+pub use orders::order;
 pub use writes::write;

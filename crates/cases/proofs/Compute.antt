@@ -25,8 +25,9 @@ use Rattle.graph.proofs.Weights.{nonempty-x, nonempty-y}
 use Rattle.graph.proofs.Masks.{closed-weighing}
 use Rattle.graph.proofs.Layers.{layer-make, layer-product}
 use Rattle.network.specs.declared.Refusal.{Refusal}
-use Rattle.network.specs.File.{graphOf, none, fileRefusal}
-use Rattle.cases.specs.Cases.{members, Ring, Counts, Claim, core, level, across, finding, layers, harmonic, has, gives, Rings, Says, Case, Hold}
+use Rattle.network.specs.File.{graphOf, none, oldRefusal, fileRefusal}
+use Rattle.network.specs.Bytes.{written}
+use Rattle.cases.specs.Cases.{members, Ring, Counts, Claim, core, level, across, finding, layers, harmonic, has, gives, orders, Rings, Says, Case, Hold}
 use Rattle.cases.proofs.Sweep.{withOut, withIn, sourcesLeft, targetsLeft, covers-sweep}
 use Rattle.cases.proofs.Drops.{drops, foundOf, places-found}
 
@@ -318,6 +319,20 @@ refusal-sound r s h =
     let (p, q) = both (eqb (r .number) (s .number)) _ h in
     λ i. record { number = eqb-true (r .number) (s .number) p i; link = eqb-true (r .link) (s .link) q i }
 
+-- two lists of bytes are equal
+abbrev pub areEqual : List ℕ → List ℕ → Bool
+areEqual [] [] = true
+areEqual [] (b ∷ m) = false
+areEqual (a ∷ l) [] = false
+areEqual (a ∷ l) (b ∷ m) = eqb a b && areEqual l m
+
+-- as lists
+equal-sound : (l m : List ℕ) → areEqual l m ≡ true → l ≡ m
+equal-sound [] [] h = refl
+equal-sound [] (b ∷ m) h = absurd (false≢true h)
+equal-sound (a ∷ l) [] h = absurd (false≢true h)
+equal-sound (a ∷ l) (b ∷ m) h = let (p, q) = both (eqb a b) _ h in rw (eqb-true a b p, equal-sound l m q)
+
 -- the file is accepted, and its network is closed
 abbrev pub isAccepted : List ℕ → Bool
 isAccepted f = isRefusal (fileRefusal f) none && isClosed (graphOf f)
@@ -339,6 +354,7 @@ holds f A B (layers l rings) =
 holds f A B (harmonic S T E) = isAccepted f && (isHarmonic (graphOf f) (members S) (members T) && isCounts (graphOf f) S T E)
 holds f A B (has n m) = isRefusal (fileRefusal f) none && (eqb (graphOf f .order) n && eqb (graphOf f .size) m)
 holds f A B (gives r) = isRefusal (fileRefusal f) r
+holds f A B (orders w) = isRefusal (oldRefusal f) none && (areEqual (written (graphOf f)) w && isRefusal (fileRefusal w) none)
 
 -- a claim that passes its test holds
 holds-sound : (f : List ℕ) (A B : Group) (c : Claim) → holds f A B c ≡ true → Says f A B c
@@ -381,6 +397,10 @@ holds-sound f A B (has n m) h =
     let (p, q) = both (eqb (graphOf f .order) n) _ r in
     (refusal-sound (fileRefusal f) none a, eqb-true _ _ p, eqb-true _ _ q)
 holds-sound f A B (gives r) h = refusal-sound (fileRefusal f) r h
+holds-sound f A B (orders w) h =
+    let (a, r) = both (isRefusal (oldRefusal f) none) _ h in
+    let (p, q) = both (areEqual (written (graphOf f)) w) _ r in
+    (refusal-sound (oldRefusal f) none a, equal-sound (written (graphOf f)) w p, refusal-sound (fileRefusal w) none q)
 
 -- the test of every case of a table
 abbrev pub allHold : List Case → Bool

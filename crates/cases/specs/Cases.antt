@@ -12,8 +12,8 @@ use Rattle.graph.specs.Quiet.{OutcomeInside}
 use Rattle.graph.specs.Layers.{stillIn, LayeringInside}
 use Rattle.graph.specs.Harmonic.{Harmonic}
 use Rattle.network.specs.declared.Refusal.{Refusal}
-use Rattle.network.specs.File.{graphOf, none, plain, at, fileRefusal}
-use Rattle.network.specs.Bytes.{header, edgeBytes}
+use Rattle.network.specs.File.{graphOf, none, plain, at, oldRefusal, fileRefusal}
+use Rattle.network.specs.Bytes.{header, edgeBytes, written}
 
 -- the group of the listed members
 abbrev pub members : List ℕ → Group
@@ -46,6 +46,8 @@ pub data Claim : Type 0 where
   has : (n m : ℕ) → Claim
   -- the file's own bytes give this refusal, or none
   gives : Refusal → Claim
+  -- by the old rule the file is accepted, and its links in order are this file, which is accepted
+  orders : List ℕ → Claim
 
 -- the counts between the listed groups: E links, and no member listed twice or beyond the network
 pub record Counts (g : Graph) (S T : List ℕ) (E : ℕ) : Type 0 where
@@ -85,7 +87,7 @@ pub record SaysHarmonic (f : List ℕ) (S T : List ℕ) (E : ℕ) : Type 0 where
   pub found : Harmonic (graphOf f) (members S) (members T)
   pub counts : Counts (graphOf f) S T E
 
--- a claim on a file inside A and B, by the definitions; A and B do not count for the harmonic finder, for n and m or for the refusal
+-- a claim on a file inside A and B, by the definitions; A and B do not count for the harmonic finder, nor for what is said of the file's bytes
 abbrev pub Says : List ℕ → Group → Group → Claim → Type 0
 Says f A B (core x y S T E) = SaysCore f A B x y S T E
 Says f A B (level x y) = (fileRefusal f ≡ none) × LevelInside (graphOf f) A B x y
@@ -95,6 +97,7 @@ Says f A B (layers l rings) = SaysLayers f A B l rings
 Says f A B (harmonic S T E) = SaysHarmonic f S T E
 Says f A B (has n m) = (fileRefusal f ≡ none) × (graphOf f .order ≡ n) × (graphOf f .size ≡ m)
 Says f A B (gives r) = fileRefusal f ≡ r
+Says f A B (orders w) = (oldRefusal f ≡ none) × (written (graphOf f) ≡ w) × (fileRefusal w ≡ none)
 
 -- a file, the groups A and B, and one claim on it inside them
 pub record Case : Type 0 where
@@ -106,6 +109,10 @@ pub record Case : Type 0 where
 -- network W
 abbrev pub W : List ℕ
 W = header 6 8 ++ edgeBytes 0 3 ++ edgeBytes 0 4 ++ edgeBytes 1 3 ++ edgeBytes 1 4 ++ edgeBytes 2 3 ++ edgeBytes 2 4 ++ edgeBytes 4 5 ++ edgeBytes 5 5
+
+-- W's links in another order
+abbrev pub mixedW : List ℕ
+mixedW = header 6 8 ++ edgeBytes 5 5 ++ edgeBytes 2 4 ++ edgeBytes 0 4 ++ edgeBytes 1 3 ++ edgeBytes 4 5 ++ edgeBytes 2 3 ++ edgeBytes 0 3 ++ edgeBytes 1 4
 
 -- 02's example: a star of four vouchers round member 4, and a ring of two vouchers and two vouched members
 abbrev pub starAndRing : List ℕ
@@ -123,7 +130,8 @@ says f c = record { file = f; sources = everyone; targets = everyone; claim = c 
 abbrev pub saysIn : List ℕ → List ℕ → List ℕ → Claim → Case
 saysIn f A B c = record { file = f; sources = members A; targets = members B; claim = c }
 
--- P1 to P9, W's report and W's layers, 02's example, some of these inside A and B, the harmonic finder, zero bytes, then the limits of a file
+-- P1 to P9, W's report and W's layers, 02's example, some of these inside A and B, the harmonic finder, zero bytes, the limits of a file, then links that
+-- do not ascend
 unfoldable pub cases : List Case
 cases =
     -- P1
@@ -218,6 +226,14 @@ cases =
     ∷ says (header 3 1 ++ edgeBytes 2 2) (gives none)
     ∷ says (header 3 1 ++ edgeBytes 2 3) (gives (at 7 0))
     ∷ says (header 3 3 ++ edgeBytes 0 1 ++ edgeBytes 1 0 ++ edgeBytes 0 1) (gives (at 8 2))
+    -- links that do not ascend (02, wish 7): the first that comes before the one preceding it, by voucher and then by vouched; 8 comes first
+    ∷ says mixedW (gives (at 15 1))
+    ∷ says (header 3 3 ++ edgeBytes 0 1 ++ edgeBytes 0 0 ++ edgeBytes 0 1) (gives (at 8 2))
+    ∷ says (header 3 4 ++ edgeBytes 0 1 ++ edgeBytes 0 2 ++ edgeBytes 0 0 ++ edgeBytes 1 0) (gives (at 15 2))
+    ∷ says (header 3 2 ++ edgeBytes 0 2 ++ edgeBytes 1 0) (gives none)
+    -- by the old rule they are taken, and in order they are W; zero bytes are taken too
+    ∷ says mixedW (orders W)
+    ∷ says [] (orders (header 0 0))
     ∷ []
 
 -- every case's claim holds

@@ -7,6 +7,7 @@ pub use calls::CheckAnswer;
 pub use calls::WriteAnswer;
 pub use calls::check;
 pub use calls::count;
+pub use calls::order;
 pub use calls::write;
 pub use cores::LevelAnswer;
 pub use cores::core;

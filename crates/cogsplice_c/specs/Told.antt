@@ -41,7 +41,7 @@ abbrev pub totalsNumbers : totals.TotalsAnswer → TotalsNumbers
 totalsNumbers (totals.the-variants.Counted c) = record { refusal = 0; link = 0; edges = c .edges; sources = c .sources; targets = c .targets }
 totalsNumbers (totals.the-variants.Refused r) = record { refusal = r .number; link = r .link; edges = 0; sources = 0; targets = 0 }
 
--- of the writer,
+-- of the calls that write a file,
 abbrev pub writeNumbers : write.WriteAnswer → WriteNumbers
 writeNumbers (write.the-variants.Written m) = record { refusal = 0; link = 0; m = m }
 writeNumbers (write.the-variants.Refused r) = record { refusal = r .number; link = r .link; m = 0 }

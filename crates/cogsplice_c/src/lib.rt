@@ -16,7 +16,7 @@ ghost use mathlib.Core.Bool.{_&&_};
 ghost use mathlib.Core.Path.{_≡_};
 ghost use lib.Dec.{eqb};
 ghost use Rattle.network.specs.Refusals.{rowRefusal};
-ghost use Rattle.calls.specs.Calls.{CheckCall, CountCall, WriteCall};
+ghost use Rattle.calls.specs.Calls.{CheckCall, CountCall, WriteCall, OrderCall};
 ghost use Rattle.adjacency.specs.Calls.{bySide, IndexCall};
 ghost use Rattle.cores.specs.Calls.{CoreCall, LevelCall, LevelAcrossCall, EqualLevelCall};
 ghost use Rattle.finding.specs.Findings.{FindingCall};
@@ -43,7 +43,7 @@ pub struct TotalsNumbers {
     pub targets: usize,
 }
 
-// The numbers of the writer: m.
+// The numbers of the calls that write a file: m.
 #[repr(C)]
 pub struct WriteNumbers {
     pub refusal: u16,
@@ -114,6 +114,13 @@ pub extern "C" fn cogsplice_write(file: &[u8], out: &mut [u8]) -> WriteNumbers
     ensures { λ r. ⌜ Told (WriteCall (now (file .entry)) (now (out .entry)) (now (out .exit))) writeNumbers r ⌝ }
 {
     write_numbers(cogsplice::write(file, out))
+}
+
+#[no_mangle]
+pub extern "C" fn cogsplice_order(file: &[u8], out: &mut [u8]) -> WriteNumbers
+    ensures { λ r. ⌜ Told (OrderCall (now (file .entry)) (now (out .entry)) (now (out .exit))) writeNumbers r ⌝ }
+{
+    write_numbers(cogsplice::order(file, out))
 }
 
 #[no_mangle]

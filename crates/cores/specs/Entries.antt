@@ -9,9 +9,9 @@ use lib.ListN.{length, drop}
 use Rattle.graph.specs.Range.{sum, if}
 use Rattle.graph.specs.Within.{within}
 use Rattle.network.specs.declared.Refusal.{Refusal}
-use Rattle.network.specs.File.{graphOf, none, plain, fileRefusal}
+use Rattle.network.specs.File.{graphOf, none, plain, orElse, fileRefusal}
 use Rattle.network.specs.Groups.{groupOf, bytesOf}
-use Rattle.network.specs.Refusals.{orElse, shortGroups, inGroups, workLength}
+use Rattle.network.specs.Refusals.{shortGroups, inGroups, workLength}
 use Rattle.network.specs.Accepted.{Accepted}
 use Rattle.network.specs.Calls.{Call}
 use Rattle.peeling.specs.Peeling.{Tabled}

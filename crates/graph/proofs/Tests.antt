@@ -30,6 +30,11 @@ test-ext true b f h = sym (f refl)
 test-ext false true f h = h refl
 test-ext false false f h = refl
 
+-- a test that may not hold fails
+pub test-fails : (b : Bool) → (b ≡ true → ⊥) → b ≡ false
+test-fails true h = absurd (h refl)
+test-fails false h = refl
+
 -- the order of two tests does not count
 pub if-comm : (a b : Bool) (w : ℕ) → if (a && b) w ≡ if (b && a) w
 if-comm true true w = refl

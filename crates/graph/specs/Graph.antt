@@ -1,6 +1,7 @@
 -- A weighted directed graph, its edges numbered, and what is counted between two groups of its vertices.
 use Prim.Native.Nat.{ℕ, _<_}
 use mathlib.Core.Bool.{Bool, true, _&&_}
+use mathlib.Core.Logic.{_↔_}
 use mathlib.Core.Path.{_≡_}
 use lib.Dec.{eqb}
 use Rattle.graph.specs.Range.{sum, if}
@@ -17,6 +18,10 @@ pub record Graph : Type 0 where
 -- an edge goes from u to v
 abbrev pub Linked : Graph → ℕ → ℕ → Type 0
 Linked g u v = (e : ℕ) × (e < g .size) × (g .source e ≡ u) × (g .target e ≡ v)
+
+-- condition 2: the two hold the same links
+abbrev pub SameLinks : Graph → Graph → Type 0
+SameLinks g h = (u v : ℕ) → Linked g u v ↔ Linked h u v
 
 -- every edge turned round
 abbrev pub reverse : Graph → Graph

@@ -14,10 +14,11 @@ use Rattle.graph.specs.Range.{first}
 use Rattle.graph.specs.Graph.{Graph}
 use Rattle.graph.specs.Shapes.{Closed, Simple}
 use Rattle.graph.proofs.Ranges.{first-le, first-passes, first-before, first-least, first-none}
+use Rattle.graph.proofs.Ascending.{ascending-simple}
 use Rattle.network.specs.declared.Refusal.{Refusal}
-use Rattle.network.specs.File.{linkAt, graphOf, outside, same, repeat, none, fileRefusal}
-use Rattle.network.specs.Refusals.{orElse}
-use Rattle.network.specs.Accepted.{Accepted, Holds}
+use Rattle.network.specs.File.{linkAt, graphOf, outside, same, repeat, descent, none, at, orElse, oldRefusal, fileRefusal}
+use Rattle.network.specs.Accepted.{Distinct, Accepted, Holds}
+use Rattle.network.proofs.Descents.{descent-none}
 
 -- a test for less fails exactly when the other is no greater
 pub ltb-fails : (a b : ℕ) → (ltb a b ≡ false) ↔ (b ≤ a)
@@ -86,10 +87,15 @@ orElse-both {r} s p = (go (eqb (r .number) 0) refl, λ (h, i). rw h i)
 pub orElse-proper : {r s : Refusal} → Proper r → Proper s → Proper (orElse r s)
 orElse-proper {r} p q = cond-either (eqb (r .number) 0) q p
 
--- the refusal of a file has number 0 only where it is none
+-- the refusal of a file by the old rule has number 0 only where it is none
+pub old-proper : (f : List ℕ) → Proper (oldRefusal f)
+unfolding oldRefusal
+old-proper f = cond-either (eqb (length f) 0) none-proper (search (cond-proper, none-proper) depth 10)
+
+-- and so the refusal of a file
 pub file-proper : (f : List ℕ) → Proper (fileRefusal f)
 unfolding fileRefusal
-file-proper f = cond-either (eqb (length f) 0) none-proper (search (cond-proper, none-proper) depth 10)
+file-proper f = orElse-proper (old-proper f) (search (cond-proper, none-proper))
 
 -- no link is outside exactly when each joins two vertices of the graph
 pub outside-closed : (g : Graph) → (outside g ≡ g .size) ↔ Closed g
@@ -127,21 +133,48 @@ pub no-bytes : Accepted []
 no-bytes =
     record {
       sound = record { header = record { order-most = omega arith; size-most = omega arith; headed = λ h. absurd (omega arith) }; closed = omega arith };
-      simple = λ d e h. absurd (omega arith);
+      ascending = λ e h. absurd (omega arith);
     }
 
--- a file is accepted exactly when none of its own numbers is given
-pub accepted : (f : List ℕ) → (fileRefusal f ≡ none) ↔ Accepted f
-unfolding fileRefusal
-accepted [] = (λ t. no-bytes, λ a. refl)
-accepted (b ∷ r) = some (b ∷ r) (omega arith)
+-- no two links of an accepted file are the same, so that it is accepted by the old rule
+pub accepted-distinct : {f : List ℕ} → Accepted f → Distinct f
+accepted-distinct {f} a = record { sound = a .sound; simple = ascending-simple (graphOf f) (a .ascending) }
+
+-- a file is accepted by the old rule exactly when none of its numbers is given
+pub old-accepted : (f : List ℕ) → (oldRefusal f ≡ none) ↔ Distinct f
+unfolding oldRefusal
+old-accepted [] = (λ t. accepted-distinct no-bytes, λ a. refl)
+old-accepted (b ∷ r) = some (b ∷ r) (omega arith)
   where
-    some : (f : List ℕ) → 1 ≤ length f → (fileRefusal f ≡ none) ↔ Accepted f
+    some : (f : List ℕ) → 1 ≤ length f → (oldRefusal f ≡ none) ↔ Distinct f
     some f l =
         simp (some-bytes f l, cond-past, cond-none, first-fails, ltb-fails, not-fails, eqb-holds) (
           λ t. search (outside-closed (graphOf f) .0, repeat-simple (graphOf f) .0),
           λ a. let h = a .sound .header .headed l in search (outside-closed (graphOf f) .1 (a .sound .closed), repeat-simple (graphOf f) .1 (a .simple)) depth 10,
         )
+
+-- a file is accepted exactly when none of its own numbers is given
+pub accepted : (f : List ℕ) → (fileRefusal f ≡ none) ↔ Accepted f
+unfolding fileRefusal
+accepted f = (taken, given)
+  where
+    g : Graph
+    g = graphOf f
+
+    -- 15 is not given exactly when no link comes before the one preceding it
+    stands : (cond (ltb (descent g) (g .size)) (at 15 (descent g)) none ≡ none) ↔ (descent g ≡ g .size)
+    stands = (λ h. first-fails _ _ .0 (cond-none _ (at 15 (descent g)) none refl .0 h .0), λ h. rw (first-fails _ _ .1 h))
+
+    taken : fileRefusal f ≡ none → Accepted f
+    taken h =
+        let (p, q) = orElse-both _ (old-proper f) .0 h in
+        let d = old-accepted f .0 p in
+        record { sound = d .sound; ascending = descent-none g (d .simple) .0 (stands .0 q) }
+
+    given : Accepted f → fileRefusal f ≡ none
+    given a =
+        let d = accepted-distinct a in
+        orElse-both _ (old-proper f) .1 (old-accepted f .1 d, stands .1 (descent-none g (d .simple) .1 (a .ascending)))
 
 -- where another refusal comes after the file's, there is none exactly when the file is accepted and the other is none
 pub accepted-orElse : (f : List ℕ) (s : Refusal) → (orElse (fileRefusal f) s ≡ none) ↔ (Accepted f × (s ≡ none))
@@ -149,8 +182,12 @@ accepted-orElse f s =
     (λ h. let (p, q) = orElse-both s (file-proper f) .0 h in (accepted f .0 p, q), λ (p, q). orElse-both s (file-proper f) .1 (accepted f .1 p, q))
 
 -- a refusal that was found to be number 0 was none,
+pub proper-none : {q r : Refusal} → Proper r → q ≡ r → q .number ≡ 0 → r ≡ none
+proper-none p e z = p .number-none (ap (λ t. t .number) (sym e) ∙ z)
+
+-- as that of a file,
 pub found-none : (f : List ℕ) {r : Refusal} → r ≡ fileRefusal f → r .number ≡ 0 → fileRefusal f ≡ none
-found-none f e z = file-proper f .number-none (ap (λ t. t .number) (sym e) ∙ z)
+found-none f = proper-none (file-proper f)
 
 -- so the file is accepted
 pub found-accepted : (f : List ℕ) {r : Refusal} → r ≡ fileRefusal f → r .number ≡ 0 → Accepted f

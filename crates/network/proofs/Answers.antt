@@ -5,8 +5,7 @@ use mathlib.Core.Logic.{_≢_}
 use mathlib.Core.Path.{_≡_, refl, sym, ap, _∙_}
 use borrow.Author.Tests.{ne-eqb}
 use Rattle.network.specs.declared.Refusal.{Refusal}
-use Rattle.network.specs.File.{none, plain}
-use Rattle.network.specs.Refusals.{orElse}
+use Rattle.network.specs.File.{none, plain, orElse}
 use Rattle.network.specs.Calls.{Call, refused, accepted}
 
 -- a refusal of a number that is not 0 is one

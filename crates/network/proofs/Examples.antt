@@ -6,8 +6,8 @@ use Rattle.graph.specs.Range.{sum, first, flat}
 use Rattle.graph.specs.Graph.{reverse}
 use Rattle.graph.specs.Order.{rankBy, nthBy, starts, rows}
 use Rattle.network.specs.declared.Refusal.{Refusal}
-use Rattle.network.specs.File.{graphOf, none, plain, at, fileRefusal}
-use Rattle.network.specs.Refusals.{indexRefusal, rowRefusal, countRefusal, coreRefusal, levelRefusal, equalLevelRefusal, layersRefusal, harmonicRefusal, writeRefusal}
+use Rattle.network.specs.File.{graphOf, none, plain, at, oldRefusal, fileRefusal}
+use Rattle.network.specs.Refusals.{indexRefusal, rowRefusal, countRefusal, coreRefusal, levelRefusal, equalLevelRefusal, layersRefusal, harmonicRefusal, outRefusal, writeRefusal, orderRefusal}
 use Rattle.network.specs.Bytes.{written}
 
 -- the bytes of links between members below 256
@@ -27,6 +27,10 @@ W = small 6 8 (links ((0, 3) ∷ (0, 4) ∷ (1, 3) ∷ (1, 4) ∷ (2, 3) ∷ (2,
 abbrev pub mixedW : List ℕ
 mixedW = small 6 8 (links ((5, 5) ∷ (2, 4) ∷ (0, 4) ∷ (1, 3) ∷ (4, 5) ∷ (2, 3) ∷ (0, 3) ∷ (1, 4) ∷ []))
 
+-- links of which two come before the one preceding them, the first by its vouched member
+abbrev pub twoDescents : List ℕ
+twoDescents = small 3 5 (links ((0, 1) ∷ (0, 2) ∷ (0, 0) ∷ (2, 0) ∷ (1, 2) ∷ []))
+
 -- a file and what is given for it
 pub record Case : Type 0 where
   pub file : List ℕ
@@ -45,18 +49,27 @@ cases =
     ∷ record { file = 0x56 ∷ 0x43 ∷ 0x48 ∷ 1 ∷ 0 ∷ 0 ∷ 8 ∷ 0 ∷ 32 ∷ []; refusal = plain 6 }
     ∷ record { file = small 1 2 (links ((0, 1) ∷ (0, 1) ∷ (0, 0) ∷ [])); refusal = plain 6 }
     ∷ record { file = small 2 5 (links ((0, 1) ∷ (0, 1) ∷ (0, 2) ∷ (2, 0) ∷ (2, 0) ∷ [])); refusal = at 7 2 }
+    ∷ record { file = small 2 3 (links ((1, 0) ∷ (0, 1) ∷ (0, 2) ∷ [])); refusal = at 7 2 }
     ∷ record { file = small 2 4 (links ((0, 1) ∷ (1, 0) ∷ (1, 0) ∷ (0, 1) ∷ [])); refusal = at 8 2 }
-    ∷ record { file = small 2 2 (links ((0, 1) ∷ (1, 0) ∷ [])); refusal = none }
+    ∷ record { file = small 2 3 (links ((1, 0) ∷ (0, 1) ∷ (1, 0) ∷ [])); refusal = at 8 2 }
+    ∷ record { file = small 2 2 (links ((1, 0) ∷ (1, 0) ∷ [])); refusal = at 8 1 }
+    ∷ record { file = twoDescents; refusal = at 15 2 }
+    ∷ record { file = mixedW; refusal = at 15 1 }
+    ∷ record { file = small 3 2 (links ((0, 2) ∷ (1, 0) ∷ [])); refusal = none }
     ∷ record { file = 0x56 ∷ 0x43 ∷ 0x48 ∷ 1 ∷ 0 ∷ 0 ∷ 8 ∷ 0 ∷ 0 ∷ []; refusal = none }
     ∷ record { file = small 0 0 []; refusal = none }
     ∷ record { file = W; refusal = none }
-    ∷ record { file = mixedW; refusal = none }
     ∷ []
 
 -- each has its refusal
 pub case-refusals : map (λ c. fileRefusal (c .file)) cases ≡ map (λ c. c .refusal) cases
-unfolding fileRefusal first
+unfolding fileRefusal oldRefusal first
 case-refusals = refl
+
+-- by the old rule links may stand in any order, and none may repeat another
+pub old-refusals : map oldRefusal (twoDescents ∷ mixedW ∷ small 2 2 (links ((1, 0) ∷ (1, 0) ∷ [])) ∷ []) ≡ none ∷ none ∷ at 8 1 ∷ []
+unfolding oldRefusal first
+old-refusals = refl
 
 -- the tables of a file
 abbrev pub tables : List ℕ → List (List ℕ)
@@ -154,6 +167,12 @@ calls =
     ∷ record { given = writeRefusal (0 ∷ []) 0; expected = plain 1 }
     ∷ record { given = writeRefusal W 40; expected = plain 9 }
     ∷ record { given = writeRefusal W 41; expected = none }
+    ∷ record { given = writeRefusal mixedW 40; expected = at 15 1 }
+    ∷ record { given = coreRefusal mixedW [] [] 0 0 0; expected = at 15 1 }
+    ∷ record { given = orderRefusal (small 1 2 (links ((0, 0) ∷ (0, 0) ∷ []))) 0; expected = at 8 1 }
+    ∷ record { given = orderRefusal mixedW 40; expected = plain 9 }
+    ∷ record { given = orderRefusal mixedW 41; expected = none }
+    ∷ record { given = orderRefusal (0x56 ∷ 0x43 ∷ 0x48 ∷ 2 ∷ 0 ∷ 0 ∷ 0 ∷ 0 ∷ 0 ∷ []) 9; expected = plain 3 }
     ∷ record { given = indexRefusal [] 1 0 0 0; expected = plain 9 }
     ∷ record { given = indexRefusal [] 1 0 1 0; expected = none }
     ∷ record { given = coreRefusal [] [] [] 0 0 1; expected = plain 9 }
@@ -164,9 +183,11 @@ calls =
     ∷ record { given = harmonicRefusal [] 0 0 2; expected = none }
     ∷ record { given = writeRefusal [] 8; expected = plain 9 }
     ∷ record { given = writeRefusal [] 9; expected = none }
+    ∷ record { given = orderRefusal [] 8; expected = plain 9 }
+    ∷ record { given = orderRefusal [] 9; expected = none }
     ∷ []
 
 -- each gives what it is to
 pub call-refusals : map (λ c. c .given) calls ≡ map (λ c. c .expected) calls
-unfolding first fileRefusal indexRefusal rowRefusal countRefusal coreRefusal levelRefusal equalLevelRefusal layersRefusal harmonicRefusal writeRefusal
+unfolding first oldRefusal fileRefusal indexRefusal rowRefusal countRefusal coreRefusal levelRefusal equalLevelRefusal layersRefusal harmonicRefusal outRefusal
 call-refusals = refl

@@ -1,4 +1,5 @@
 pub mod Sides
+pub mod Descents
 pub mod Accepted
 pub mod Answers
 pub mod Groups

@@ -65,15 +65,14 @@ written-closed {g} k =
       target-below = λ i h. let l : i < g .size = rw (written-size g) at h in rw (written-order g, written-target g i l) (k .target-below _ (edgeAt-lt g i l));
     }
 
--- no two are the same where no two edges are,
-written-simple : (g : Graph) → Simple g → Simple (graphOf (written g))
-written-simple g s i j h h′ p q =
-    let l : i < g .size = rw (written-size g) at h in
-    let m : j < g .size = rw (written-size g) at h′ in
-    edgeAt-permutes g .injective i j l m
-    (s _ _ (edgeAt-lt g i l) (edgeAt-lt g j m)
-    (sym (written-source g i l) ∙ p ∙ written-source g j m)
-    (sym (written-target g i l) ∙ q ∙ written-target g j m))
+-- they ascend where no two edges are the same,
+pub written-ascending : (g : Graph) → Simple g → Ascending (graphOf (written g))
+written-ascending g s i h =
+    let m : suc i < g .size = rw (written-size g) at h in
+    let l : i < g .size = omega arith in
+    rw (written-source g i l, written-source g (suc i) m, written-target g i l, written-target g (suc i) m)
+    (precedes-ascends g (edgeAt g i) (edgeAt g (suc i)) (edgeAt-ascending g i (suc i) (omega arith) m) (λ p q.
+    omega (arith, edgeAt-permutes g .injective i (suc i) l m (s _ _ (edgeAt-lt g i l) (edgeAt-lt g (suc i) m) p q))))
 
 -- and the file is accepted
 pub written-accepted : {g : Graph} → g .order ≤ mostMembers → g .size ≤ mostLinks → Closed g → Simple g → Accepted (written g)
@@ -87,7 +86,7 @@ written-accepted {g} n m k s =
         };
         closed = written-closed k;
       };
-      simple = written-simple g s;
+      ascending = written-ascending g s;
     }
 
 -- of edges that weigh 1 each it has as many between two groups
@@ -110,12 +109,3 @@ written-linked g u v = (read, laid)
     laid (e, l, p, q) =
         let (i, m, h) = permutes-onto (edgeAt-permutes g) e l in
         (i, rw (written-size g) m, written-source g i m ∙ ap (g .source) h ∙ p, written-target g i m ∙ ap (g .target) h ∙ q)
-
--- where no two edges are the same, its links ascend
-pub written-ascending : (g : Graph) → Simple g → Ascending (graphOf (written g))
-written-ascending g s i h =
-    let m : suc i < g .size = rw (written-size g) at h in
-    let l : i < g .size = omega arith in
-    rw (written-source g i l, written-source g (suc i) m, written-target g i l, written-target g (suc i) m)
-    (precedes-ascends g (edgeAt g i) (edgeAt g (suc i)) (edgeAt-ascending g i (suc i) (omega arith) m) (λ p q.
-    omega (arith, edgeAt-permutes g .injective i (suc i) l m (s _ _ (edgeAt-lt g i l) (edgeAt-lt g (suc i) m) p q))))

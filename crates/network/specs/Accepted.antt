@@ -4,6 +4,7 @@ use mathlib.Core.Bool.{true}
 use mathlib.Core.List.{List}
 use mathlib.Core.Path.{_≡_}
 use lib.ListN.{length}
+use Rattle.graph.specs.Order.{Ascending}
 use Rattle.graph.specs.Shapes.{Closed, Simple}
 use Rattle.network.specs.File.{mostMembers, mostLinks, u16At, linkAt, graphOf, mark, marked}
 
@@ -25,10 +26,15 @@ pub record Sound (f : List ℕ) : Type 0 where
   pub header : Header f
   pub closed : Closed (graphOf f)
 
--- and 8: no two are the same
-pub record Accepted (f : List ℕ) : Type 0 where
+-- and 8: no two are the same, so that the file is accepted by the old rule
+pub record Distinct (f : List ℕ) : Type 0 where
   pub sound : Sound f
   pub simple : Simple (graphOf f)
+
+-- and 15: they ascend, so that no two are the same either
+pub record Accepted (f : List ℕ) : Type 0 where
+  pub sound : Sound f
+  pub ascending : Ascending (graphOf f)
 
 -- e is an edge of a file that passes the numbers 1 to 6
 abbrev pub Holds : List ℕ → ℕ → Type 0

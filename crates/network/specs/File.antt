@@ -1,11 +1,12 @@
--- The network file: what its bytes mean, and which of the numbers 1 to 8 is given for them.
-use Prim.Native.Nat.{ℕ, _+_, _*_}
+-- The network file: what its bytes mean, and which of the numbers 1 to 8 and 15 is given for them.
+use Prim.Native.Nat.{ℕ, _+_, _-_, _*_}
 use mathlib.Core.Bool.{Bool, not, cond, _&&_, _||_}
 use mathlib.Core.List.{List, [], _∷_}
 use lib.Dec.{eqb, leb, ltb}
 use lib.ListN.{length, getD}
 use Rattle.graph.specs.Range.{first}
 use Rattle.graph.specs.Graph.{Graph}
+use Rattle.graph.specs.Order.{ascends}
 use Rattle.network.specs.declared.Refusal.{Refusal}
 
 -- 01: a network has at most so many members
@@ -55,6 +56,10 @@ same g d e = eqb (g .source d) (g .source e) && eqb (g .target d) (g .target e)
 abbrev pub repeat : Graph → ℕ
 repeat g = first (λ e. ltb (first (λ d. same g d e) e) e) (g .size)
 
+-- 02, wish 7: the first link that comes before the one preceding it, or m. Link 0 never does: nothing precedes it, and no link comes before itself.
+abbrev pub descent : Graph → ℕ
+descent g = first (λ e. ascends g e (e - 1)) (g .size)
+
 -- no refusal
 abbrev pub none : Refusal
 none = record { number = 0; link = 0 }
@@ -67,14 +72,18 @@ plain k = record { number = k; link = 0 }
 abbrev pub at : ℕ → ℕ → Refusal
 at k e = record { number = k; link = e }
 
--- 01: the numbers with which a link's number is returned
-abbrev pub namesLink : ℕ → Bool
-namesLink k = eqb k 7 || eqb k 8
+-- the first refusal where there is one, else the second
+abbrev pub orElse : Refusal → Refusal → Refusal
+orElse r s = cond (eqb (r .number) 0) s r
 
--- 01: the number that the file's own bytes give, which is the refusal of the check. 02, wish 3: zero bytes give none, since they count as the
--- version 1 file with n 0 and m 0, as which `graphOf` reads them; 1 is for 1 to 8 bytes.
-unfoldable pub fileRefusal : List ℕ → Refusal
-fileRefusal f =
+-- 01, 02: the numbers with which a link's number is returned
+abbrev pub namesLink : ℕ → Bool
+namesLink k = eqb k 7 || eqb k 8 || eqb k 15
+
+-- 02, wish 7: the old rule: links may stand in any order. The numbers 1 to 8 of 01; wish 3: zero bytes give none, since they count as the version 1
+-- file with n 0 and m 0, as which `graphOf` reads them; 1 is for 1 to 8 bytes.
+unfoldable pub oldRefusal : List ℕ → Refusal
+oldRefusal f =
     cond (eqb (length f) 0) none
     (cond (ltb (length f) 9) (plain 1)
     (cond (not (marked mark f)) (plain 2)
@@ -85,3 +94,7 @@ fileRefusal f =
     (cond (ltb (outside (graphOf f)) (graphOf f .size)) (at 7 (outside (graphOf f)))
     (cond (ltb (repeat (graphOf f)) (graphOf f .size)) (at 8 (repeat (graphOf f)))
     none))))))))
+
+-- 02, wish 7: the number that the file's own bytes give, which is the refusal of the check: by the old rule, and then 15
+unfoldable pub fileRefusal : List ℕ → Refusal
+fileRefusal f = orElse (oldRefusal f) (cond (ltb (descent (graphOf f)) (graphOf f .size)) (at 15 (descent (graphOf f))) none)

@@ -1,16 +1,12 @@
--- The refusal of each call, from the file, the arguments and the lengths of the lent tables: the first that applies, in 01's order.
+-- The refusal of each call, from the file, the arguments and the lengths of the lent tables: the first that applies, in the order of 01 and 02.
 use Prim.Native.Nat.{ℕ, suc, _+_, _-_, _*_}
 use mathlib.Core.Bool.{Bool, not, cond, _&&_, _||_}
 use mathlib.Core.List.{List}
 use lib.Dec.{eqb, leb, ltb}
 use lib.ListN.{length, getD}
 use Rattle.network.specs.declared.Refusal.{Refusal}
-use Rattle.network.specs.File.{linkAt, graphOf, none, plain, fileRefusal}
+use Rattle.network.specs.File.{linkAt, graphOf, none, plain, orElse, oldRefusal, fileRefusal}
 use Rattle.network.specs.Groups.{isGroup}
-
--- the first refusal where there is one, else the second
-abbrev pub orElse : Refusal → Refusal → Refusal
-orElse r s = cond (eqb (r .number) 0) s r
 
 -- 01's order: the number of the file's own bytes, 9 where a table is short, and what comes after
 abbrev pub inOrder : List ℕ → Bool → Refusal → Refusal
@@ -80,6 +76,14 @@ layersRefusal f a b l w =
     let g = graphOf f in
     inOrder f (shortGroups (g .order) a b || ltb l (g .size) || ltb w (workLength (g .order) (g .size))) (inGroups (g .order) a b none)
 
+-- a call that writes a file of m links: the refusal of what it reads, and 9 where the output is shorter than the file
+unfoldable pub outRefusal : Refusal → ℕ → ℕ → Refusal
+outRefusal r m o = orElse r (cond (ltb o (linkAt m)) (plain 9) none)
+
 -- the file and the length of the output
-unfoldable pub writeRefusal : List ℕ → ℕ → Refusal
-writeRefusal f o = inOrder f (ltb o (linkAt (graphOf f .size))) none
+abbrev pub writeRefusal : List ℕ → ℕ → Refusal
+writeRefusal f = outRefusal (fileRefusal f) (graphOf f .size)
+
+-- 02, wish 7: the file by the old rule and the length of the output
+abbrev pub orderRefusal : List ℕ → ℕ → Refusal
+orderRefusal f = outRefusal (oldRefusal f) (graphOf f .size)

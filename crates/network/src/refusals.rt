@@ -30,9 +30,12 @@ impl Refusal {
     }
 }
 
-// 01: whether a link's number is returned with this number.
+// 01, 02: whether a link's number is returned with this number.
 pub fn names_link(number: u16) -> bool
     ensures { λ r. ⌜ r ≡ file.namesLink number ⌝ }
 {
-    number == 7 || number == 8
+    if number == 7 {
+        return true;
+    }
+    number == 8 || number == 15
 }

@@ -88,3 +88,9 @@ pub record Begins (before text after : List ℕ) (r : ℕ) : Type 0 where
   pub size : r ≡ length text
   -- so r counts bytes of the buffer: for a caller that writes them out
   pub counts : Counts r after
+
+-- a text of which this holds stands at the start of the buffer, and r is its length
+pub record Rendered (holds : List ℕ → Type 0) (before after : List ℕ) (r : ℕ) : Type 0 where
+  pub text : List ℕ
+  pub told : holds text
+  pub begins : Begins before text after r

@@ -5,6 +5,7 @@ use cogsplice::LayersAnswer;
 use cogsplice::LevelAnswer;
 use cogsplice::Side;
 use cogsplice::TotalsAnswer;
+use cogsplice::WriteAnswer;
 use libc::STDOUT_FILENO;
 
 // A word and two numbers, on a line.
@@ -94,6 +95,16 @@ fn try_harmonic(file: &[u8]) {
     }
 }
 
+// A stored file, whose links stand in any order, in order.
+fn try_order(file: &[u8]) {
+    let mut out = [0u8; 17];
+    match cogsplice::order(file, &mut out) {
+        WriteAnswer::Written { size } => say(b"links in order", size, 0),
+        WriteAnswer::Refused(refusal) => say_refused(refusal.number, refusal.link),
+    }
+    try_check(&out);
+}
+
 fn main() {
     let w =
         b"VCH\x01\x00\x06\x00\x08\x00\x00\x00\x03\x00\x00\x00\x04\x00\x01\x00\x03\x00\x01\x00\x04\x00\x02\x00\x03\x00\x02\x00\x04\x00\x04\x00\x05\x00\x05\x00\x05\x00";
@@ -107,4 +118,7 @@ fn main() {
     try_finding(b"");
     try_layers(b"");
     try_harmonic(b"");
+    let stored = b"VCH\x01\x00\x02\x00\x02\x00\x01\x00\x00\x00\x00\x00\x01\x00";
+    try_check(stored);
+    try_order(stored);
 }

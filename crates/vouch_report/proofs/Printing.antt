@@ -20,8 +20,8 @@ use Rattle.finding.specs.declared.Ring.{Ring}
 use Rattle.finding.specs.declared.FindingAnswer.{FindingAnswer}
 use Rattle.finding.specs.declared.FindingAnswer.the-variants.{Found, Refused}
 use Rattle.finding.specs.Findings.{FindingTold, FindingCall}
-use Rattle.report.specs.Text.{refusalText, reportText, Begins}
-use Rattle.vouch_report.specs.Printed.{Rendered}
+use Rattle.report.specs.Text.{refusalText, reportText, Begins, Rendered}
+use Rattle.vouch_report.specs.Printed.{Prints}
 use Rattle.vouch_report.specs.Parts.{refusalOf, numbersOf}
 
 -- tables for the largest file are long enough for every file, so that the finding among everyone is refused as the file is
@@ -48,14 +48,14 @@ module _ {f s s′ t t′ w w′ : List ℕ} {a : FindingAnswer} (z : Full s t w
   call-refusal = rw (z .0, z .1, z .2) (finding-full f)
 
   -- a refused finding: its line is printed
-  pub rendered-refused : {before after : List ℕ} {r : ℕ} (q : Refusal) → a ≡ Refused q → {p : Refusal} → p ≡ refusalOf a → Begins before (refusalText p) after r → Rendered f before after r
+  pub rendered-refused : {before after : List ℕ} {r : ℕ} (q : Refusal) → a ≡ Refused q → {p : Refusal} → p ≡ refusalOf a → Begins before (refusalText p) after r → Rendered (Prints f) before after r
   rendered-refused q i {p} e b = elim (c .call) [
     | refused n j k ↦
         let told : q ≡ coreRefusal f ones ones (length s) (length t) (length w) = cc in
         let same : p ≡ fileRefusal f = e ∙ ap refusalOf i ∙ told ∙ call-refusal in
         record {
           text = refusalText p;
-          prints = record { refused = λ h. ap refusalText same; accepted = λ h. absurd (refusal-some n (call-refusal ∙ h)) };
+          told = record { refused = λ h. ap refusalText same; accepted = λ h. absurd (refusal-some n (call-refusal ∙ h)) };
           begins = b;
         }
     | accepted v n j d ↦ absurd (let x : _≡_ {A = ℕ} 0 1 = cc in omega arith)
@@ -73,13 +73,13 @@ module _ {f s s′ t t′ w w′ : List ℕ} {a : FindingAnswer} (z : Full s t w
   found-sound g i = file.accepted f .0 (sym call-refusal ∙ found-told g i .0) .sound
 
   -- and its report is printed
-  pub rendered-found : {before after : List ℕ} {r : ℕ} (g : Ring) → a ≡ Found g → {n : ℕ} → n ≡ graphOf f .order → Begins before (reportText (numbersOf g) s′ t′ n) after r → Rendered f before after r
+  pub rendered-found : {before after : List ℕ} {r : ℕ} (g : Ring) → a ≡ Found g → {n : ℕ} → n ≡ graphOf f .order → Begins before (reportText (numbersOf g) s′ t′ n) after r → Rendered (Prints f) before after r
   rendered-found g i {n} e b =
       let (h, d) = found-told g i in
       let all = ones-all (graphOf f .order) (found-sound g i .header .order-most) in
       record {
         text = reportText (numbersOf g) s′ t′ n;
-        prints = record {
+        told = record {
           refused = λ u. absurd (u (sym call-refusal ∙ h));
           accepted = λ u. record {
             numbers = numbersOf g;

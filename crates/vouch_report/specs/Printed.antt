@@ -9,7 +9,7 @@ use Rattle.graph.specs.Quiet.{Outcome}
 use Rattle.network.specs.File.{graphOf, none, fileRefusal}
 use Rattle.network.specs.Groups.{groupOf}
 use Rattle.report.specs.declared.Numbers.{Numbers}
-use Rattle.report.specs.Text.{refusalText, reportText, Begins}
+use Rattle.report.specs.Text.{refusalText, reportText}
 
 -- the text is the report of what is found, of which there is only one, with the equal level, and E and the sizes of the groups
 pub record Reports (f text : List ℕ) : Type 0 where
@@ -25,9 +25,3 @@ pub record Reports (f text : List ℕ) : Type 0 where
 pub record Prints (f text : List ℕ) : Type 0 where
   pub refused : fileRefusal f ≢ none → text ≡ refusalText (fileRefusal f)
   pub accepted : fileRefusal f ≡ none → Reports f text
-
--- what is to be printed stands at the start of the buffer, and r is its length
-pub record Rendered (f before after : List ℕ) (r : ℕ) : Type 0 where
-  pub text : List ℕ
-  pub prints : Prints f text
-  pub begins : Begins before text after r

@@ -1,8 +1,4 @@
 // vouch-report: reads a network file from standard input and prints its finding, or why it is refused.
-mod inputs;
-
-use crate::inputs::Input;
-use crate::inputs::read_input;
 use cogsplice::FindingAnswer;
 use cogsplice::Refusal;
 use cogsplice::Ring;
@@ -11,12 +7,14 @@ use libc::STDOUT_FILENO;
 use network::MOST_MEMBERS;
 use network::MOST_WORK;
 use network::order_of;
+use reading::Input;
+use reading::read_input;
 use report::Numbers;
 ghost use Prim.Native.Nat.{_≤_};
 ghost use mathlib.Core.Path.{_≡_};
 ghost use lib.ListN.{length};
-ghost use Rattle.report.specs.Text.{longestReport};
-ghost use Rattle.vouch_report.specs.Printed.{Rendered};
+ghost use Rattle.report.specs.Text.{longestReport, Rendered};
+ghost use Rattle.vouch_report.specs.Printed.{Prints};
 ghost use Rattle.vouch_report.specs.Parts.{refusalOf, numbersOf};
 
 // The refusal of a finding that is refused.
@@ -46,7 +44,7 @@ fn numbers_of(ring: Ring) -> Numbers
 // groups.
 fn render(file: &[u8], out: &mut [u8]) -> usize
     requires { ⌜ longestReport ≤ length (now out) ⌝ }
-    ensures { λ r. ⌜ Rendered (now (file .entry)) (now (out .entry)) (now (out .exit)) r ⌝ }
+    ensures { λ r. ⌜ Rendered (Prints (now (file .entry))) (now (out .entry)) (now (out .exit)) r ⌝ }
 {
     let everyone = [1u8; MOST_MEMBERS];
     let mut work = [0u16; MOST_WORK];

@@ -23,7 +23,8 @@ impl Layers {
         self.count
     }
 
-    /// The layer of each link, counted from 1, in the order of the file; 0 for a link that does not go from A to B.
+    /// The layer of each link, counted from 1, in the order of [`Network::links`](crate::Network::links); 0 for a link that does not go from
+    /// A to B.
     ///
     /// ```
     /// let network = cogsplice::Network::from_links(6, &[(0, 1), (0, 2), (3, 5), (4, 5)]).unwrap();
@@ -33,7 +34,7 @@ impl Layers {
         &self.of_links
     }
 
-    /// The links of a layer, each from the voucher to the vouched, in the order of the file; none where there is no such layer.
+    /// The links of a layer, each from the voucher to the vouched, ascending; none where there is no such layer.
     ///
     /// ```
     /// let network = cogsplice::Network::from_links(6, &[(0, 1), (0, 2), (3, 5), (4, 5)]).unwrap();
@@ -70,7 +71,7 @@ impl Layers {
     }
 }
 
-/// A line for each layer, without the end of the last: `layer`, its number, and its links in the order of the file.
+/// A line for each layer, without the end of the last: `layer`, its number, and its links, ascending.
 ///
 /// ```
 /// let network = cogsplice::Network::from_links(6, &[(0, 1), (0, 2), (3, 5), (4, 5)]).unwrap();

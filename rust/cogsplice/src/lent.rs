@@ -93,6 +93,7 @@ extern "C" {
     fn cogsplice_check(file: *const u8, file_length: usize) -> CheckNumbers;
     fn cogsplice_count(file: *const u8, file_length: usize, s: *const u8, s_length: usize, t: *const u8, t_length: usize) -> TotalsNumbers;
     fn cogsplice_write(file: *const u8, file_length: usize, out: *mut u8, out_length: usize) -> WriteNumbers;
+    fn cogsplice_order(file: *const u8, file_length: usize, out: *mut u8, out_length: usize) -> WriteNumbers;
     fn cogsplice_index(
         file: *const u8, file_length: usize,
         out_starts: *mut u16, out_starts_length: usize, out_rows: *mut u16, out_rows_length: usize,
@@ -152,9 +153,14 @@ pub fn count(file: &[u8], s: &[u8], t: &[u8]) -> TotalsNumbers {
     unsafe { cogsplice_count(file.as_ptr(), file.len(), s.as_ptr(), s.len(), t.as_ptr(), t.len()) }
 }
 
-/// Writes the file with its links ascending by voucher, then vouched.
+/// Writes the file with its links ascending by voucher, then vouched: as it stands, and zero bytes as the file that they count as.
 pub fn write(file: &[u8], out: &mut [u8]) -> WriteNumbers {
     unsafe { cogsplice_write(file.as_ptr(), file.len(), out.as_mut_ptr(), out.len()) }
+}
+
+/// Writes a file by the old rule, whose links may stand in any order, with its links ascending by voucher, then vouched.
+pub fn order(file: &[u8], out: &mut [u8]) -> WriteNumbers {
+    unsafe { cogsplice_order(file.as_ptr(), file.len(), out.as_mut_ptr(), out.len()) }
 }
 
 /// Fills the four tables of the index.

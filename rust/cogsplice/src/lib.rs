@@ -1,9 +1,10 @@
 //! Dense rings in a network of members who vouch for members, found by a proved library.
 //!
-//! A [`Network`] holds an accepted network file. Its calls own the tables that the library works on, and answer with groups as
-//! vectors of members, or with a typed [`Refusal`]. [`Network::within`] has cores, levels, the finding and the layers among some members
-//! only. That the answers are right is proved in the library itself, which is linked as a static library; this crate only hands numbers and
-//! tables across. [`lent`] has the calls as they are, over tables of the caller's.
+//! A [`Network`] holds an accepted network file, whose links ascend; [`Network::read_old`] takes stored files with links in any order too.
+//! Its calls own the tables that the library works on, and answer with groups as vectors of members, or with a typed [`Refusal`].
+//! [`Network::within`] has cores, levels, the finding and the layers among some members only. That the answers are right is proved in the
+//! library itself, which is linked as a static library; this crate only hands numbers and tables across. [`lent`] has the calls as they
+//! are, over tables of the caller's.
 //!
 //! ```
 //! use cogsplice::Network;

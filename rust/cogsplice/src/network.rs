@@ -2,6 +2,15 @@ use crate::{file_length, lent, work_length, Layers, Refusal, Side, Within};
 use std::fmt;
 
 /// A network file that was accepted.
+///
+/// Two networks are equal, by `==`, exactly when they have the same number of members and the same links: the links of a file ascend, so
+/// that the same links have the same bytes.
+///
+/// ```
+/// use cogsplice::Network;
+/// assert_eq!(Network::from_links(3, &[(2, 0), (0, 1)]), Network::from_links(3, &[(0, 1), (2, 0)]));
+/// assert_ne!(Network::from_links(3, &[(0, 1)]), Network::from_links(4, &[(0, 1)]));
+/// ```
 #[derive(Clone, Debug, PartialEq, Eq)]
 pub struct Network {
     file: Vec<u8>,
@@ -134,7 +143,8 @@ impl Index {
 }
 
 impl Network {
-    /// The network of a file's bytes. Zero bytes are the network without members and links, whose file they count as. Refused by 1 to 8.
+    /// The network of a file's bytes. Zero bytes are the network without members and links, whose file they count as. Refused by 1 to 8
+    /// and 15.
     ///
     /// ```
     /// use cogsplice::{Network, Refusal};
@@ -155,11 +165,33 @@ impl Network {
         })
     }
 
-    /// The network of so many members and these links, each from the voucher to the vouched. Refused by 4, 5, 7 and 8.
+    /// The network of a file by the old rule, whose links may stand in any order: [`Network::file`] then has them in order, and a file that
+    /// is in order as it stands. Zero bytes count as in [`Network::from_file`]. Refused by 1 to 8.
     ///
     /// ```
     /// use cogsplice::{Network, Refusal};
-    /// assert_eq!(Network::from_links(2, &[(0, 1), (1, 1), (0, 1)]), Err(Refusal::Repeat { link: 2 }));
+    /// // Member 1 vouches for member 0, which vouches for member 1.
+    /// let old = b"VCH\x01\x00\x02\x00\x02\x00\x01\x00\x00\x00\x00\x00\x01\x00";
+    /// assert_eq!(Network::from_file(old.to_vec()), Err(Refusal::Order { link: 1 }));
+    /// let network = Network::read_old(old).unwrap();
+    /// assert_eq!(network.links().collect::<Vec<_>>(), [(0, 1), (1, 0)]);
+    /// assert_eq!(Network::from_file(network.file().to_vec()), Ok(network));
+    /// assert_eq!(Network::read_old(b"VCH"), Err(Refusal::Short));
+    /// ```
+    pub fn read_old(file: &[u8]) -> Result<Network, Refusal> {
+        // Zero bytes too become a file with a header.
+        let mut ordered = vec![0; file.len().max(file_length(0))];
+        let numbers = lent::order(file, &mut ordered);
+        Refusal::of(numbers.refusal, numbers.link)?;
+        Network::from_file(ordered)
+    }
+
+    /// The network of so many members and these links in any order, each from the voucher to the vouched. Refused by 4, 5, 7 and 8; a link
+    /// that a refusal names is numbered as it was given.
+    ///
+    /// ```
+    /// use cogsplice::{Network, Refusal};
+    /// assert_eq!(Network::from_links(2, &[(1, 1), (0, 1), (1, 1)]), Err(Refusal::Repeat { link: 2 }));
     /// ```
     pub fn from_links(members: usize, links: &[(usize, usize)]) -> Result<Network, Refusal> {
         let mut file = b"VCH\x01\x00".to_vec();
@@ -169,7 +201,7 @@ impl Network {
             file.extend(number(voucher));
             file.extend(number(vouched));
         }
-        Network::from_file(file)
+        Network::read_old(&file)
     }
 
     /// The file's bytes, also where the network was made from none.
@@ -186,11 +218,11 @@ impl Network {
         self.members
     }
 
-    /// The links in the order of the file.
+    /// The links as they stand in the file: ascending by voucher, then vouched.
     ///
     /// ```
-    /// let network = cogsplice::Network::from_links(3, &[(2, 0), (0, 1)]).unwrap();
-    /// assert_eq!(network.links().collect::<Vec<_>>(), [(2, 0), (0, 1)]);
+    /// let network = cogsplice::Network::from_links(3, &[(2, 0), (0, 2), (0, 1)]).unwrap();
+    /// assert_eq!(network.links().collect::<Vec<_>>(), [(0, 1), (0, 2), (2, 0)]);
     /// ```
     pub fn links(&self) -> impl Iterator<Item = (usize, usize)> + '_ {
         self.file[9..].chunks_exact(4).map(|link| {
@@ -198,22 +230,6 @@ impl Network {
             let vouched = u16::from_le_bytes([link[2], link[3]]);
             (voucher.into(), vouched.into())
         })
-    }
-
-    /// The same network, its links ascending by voucher, then vouched.
-    ///
-    /// ```
-    /// let network = cogsplice::Network::from_links(3, &[(2, 0), (0, 1)]).unwrap();
-    /// assert_eq!(network.ordered().links().collect::<Vec<_>>(), [(0, 1), (2, 0)]);
-    /// ```
-    pub fn ordered(&self) -> Network {
-        let mut file = vec![0; file_length(self.links)];
-        accepted(lent::write(&self.file, &mut file).refusal);
-        Network {
-            file,
-            members: self.members,
-            links: self.links,
-        }
     }
 
     /// The index of the network.
@@ -306,7 +322,8 @@ impl Network {
     /// let star = Network::from_links(4, &[(0, 1), (0, 2), (0, 3)]).unwrap();
     /// let finding = star.finding();
     /// assert_eq!((finding.x, finding.y), (3, 1));
-    /// assert!(finding.equals(&star.ordered().finding()));
+    /// let other = Network::from_links(4, &[(3, 0), (3, 1), (3, 2)]).unwrap();
+    /// assert!(finding.equals(&other.finding()));
     /// // A star does not hide a ring of the same product: here [4,1] and [2,2].
     /// let both = [(0, 1), (0, 2), (0, 3), (0, 4), (5, 7), (5, 8), (6, 7), (6, 8)];
     /// assert_eq!(Network::from_links(9, &both).unwrap().finding().pair.s, [5, 6]);

@@ -1,7 +1,9 @@
 use std::error::Error;
 use std::fmt;
 
-/// Why a call was refused. The lowest number that applies is given. 13 is retired: it is never given again, nor used for something else.
+/// Why a call was refused, in the order of the tests: where more than one number applies the first of 1 to 8, 15, 9 to 12 and 14 is given.
+/// Of 7, 8 and 15, which name a link, each is tested over all links before the next. 13 is retired: it is never given again, nor used for
+/// something else.
 ///
 /// ```
 /// use cogsplice::{Network, Refusal};
@@ -29,6 +31,8 @@ pub enum Refusal {
     End { link: usize },
     /// 8: a link repeats an earlier one; the first such link.
     Repeat { link: usize },
+    /// 15: a link comes before the one preceding it, by voucher, then vouched; the first such link.
+    Order { link: usize },
     /// 9: a lent table is shorter than the call needs.
     Table,
     /// 10: the member of a row, or of a group, is not below n.
@@ -42,12 +46,12 @@ pub enum Refusal {
 }
 
 impl Refusal {
-    /// All refusals in the order of their numbers, those that name a link with this one.
-    fn all(link: usize) -> [Refusal; 13] {
+    /// All refusals in the order of the tests, those that name a link with this one.
+    fn all(link: usize) -> [Refusal; 14] {
         use Refusal::*;
-        let (end, repeat) = (End { link }, Repeat { link });
+        let (end, repeat, order) = (End { link }, Repeat { link }, Order { link });
         [
-            Short, Mark, Version, Members, Links, Length, end, repeat, Table, Member, Group, Zero, Row,
+            Short, Mark, Version, Members, Links, Length, end, repeat, order, Table, Member, Group, Zero, Row,
         ]
     }
 
@@ -71,6 +75,7 @@ impl Refusal {
             Refusal::Length => (6, None, "the length is not 9 + 4 * m"),
             Refusal::End { link } => (7, Some(link), "a link names a member not below n"),
             Refusal::Repeat { link } => (8, Some(link), "a link repeats an earlier one"),
+            Refusal::Order { link } => (15, Some(link), "a link comes before the one preceding it"),
             Refusal::Table => (9, None, "a table is too short"),
             Refusal::Member => (10, None, "a member is not below n"),
             Refusal::Group => (11, None, "a byte of a group is neither 0 nor 1"),
@@ -79,7 +84,7 @@ impl Refusal {
         }
     }
 
-    /// The refusal's number, 1 to 14 without 13.
+    /// The refusal's number, 1 to 15 without 13.
     pub fn number(self) -> u16 {
         self.told().0
     }

@@ -1,4 +1,5 @@
-//! Findings, layers, pairs of the harmonic measure and refusals read as they are printed: every sample, against the texts beside it.
+//! Findings, layers, pairs of the harmonic measure and refusals read as they are printed: every sample, against the texts beside it. Old
+//! files are read as the files beside them.
 use cogsplice::Network;
 use std::fs;
 use std::path::{Path, PathBuf};
@@ -47,6 +48,20 @@ fn layers_read_as_they_are_printed() {
 #[test]
 fn harmonic_pairs_read_as_they_are_printed() {
     assert_read(samples_with("harmonic"), "harmonic", |network| network.harmonic().to_string());
+}
+
+/// A file by the old rule, and beside it the same with its links in order.
+#[test]
+fn old_files_are_read_in_order() {
+    let mut compared = 0;
+    for path in samples_with("ordered") {
+        let old = Network::read_old(&fs::read(&path).unwrap()).unwrap();
+        let ordered = fs::read(path.with_extension("ordered")).unwrap();
+        assert_eq!(old.file(), ordered, "{}", path.display());
+        assert_eq!(Network::from_file(ordered), Ok(old));
+        compared += 1;
+    }
+    assert!(compared > 0);
 }
 
 #[test]

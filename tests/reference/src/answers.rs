@@ -5,7 +5,7 @@ use cogsplice::lent::{
 };
 
 /// The order in which refusals are tested: the first that applies is given.
-pub const ORDER: [u16; 13] = [1, 2, 3, 4, 5, 6, 7, 8, 9, 10, 11, 12, 14];
+pub const ORDER: [u16; 14] = [1, 2, 3, 4, 5, 6, 7, 8, 15, 9, 10, 11, 12, 14];
 
 /// The number that is given where these apply, or 0 where none does.
 pub fn first_of(applying: &[u16]) -> u16 {
@@ -15,7 +15,7 @@ pub fn first_of(applying: &[u16]) -> u16 {
 
 /// Whether a refusal by this number names a link.
 pub fn names_link(number: u16) -> bool {
-    matches!(number, 7 | 8)
+    matches!(number, 7 | 8 | 15)
 }
 
 /// A number of 01's table, with the link's number where it names one, else 0.
@@ -29,6 +29,14 @@ impl Refusal {
     /// A refusal without a link's number.
     pub fn plain(number: u16) -> Refusal {
         Refusal { number, link: 0 }
+    }
+
+    /// A refusal with a link's number.
+    pub fn at(number: u16, link: usize) -> Refusal {
+        Refusal {
+            number,
+            link: link as u16,
+        }
     }
 }
 

@@ -13,9 +13,9 @@ mod report;
 
 pub use answers::{first_of, Refusal};
 pub use cores::{core, equal_findings, equal_level, finding, level, level_across, work_length};
-pub use file::{check, file_length, read, write, LINKS, MEMBERS};
+pub use file::{check, file_length, order, read, read_any_order, write, LINKS, MEMBERS};
 pub use groups::count;
 pub use harmonic::harmonic;
 pub use index::{index, row, row_refusal};
 pub use layers::layers;
-pub use report::{report, INPUT};
+pub use report::{convert, report, INPUT};

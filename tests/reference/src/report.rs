@@ -1,14 +1,14 @@
-//! The text of the report program.
+//! What the two programs write: the text of the report, and the file in order.
 use crate::answers::names_link;
 use crate::cores::{finding, work_length};
-use crate::file::{LINKS, MEMBERS};
+use crate::file::{file_length, order, LINKS, MEMBERS};
 
-/// The most bytes that the program reads.
+/// The most bytes that either program reads.
 pub const INPUT: usize = 32_778;
 
 /// What `vouch-report` prints for an input.
 pub fn report(input: &[u8]) -> String {
-    let file = &input[..input.len().min(INPUT)];
+    let file = as_cut(input);
     let everyone = [1; MEMBERS];
     let (mut s, mut t) = (vec![0; MEMBERS], vec![0; MEMBERS]);
     let work = work_length(MEMBERS, LINKS);
@@ -25,8 +25,31 @@ pub fn report(input: &[u8]) -> String {
             members(&s),
             members(&t)
         ),
-        number if names_link(number) => format!("refused {number} at {}\n", found.link),
-        number => format!("refused {number}\n"),
+        number => refused(number, found.link),
+    }
+}
+
+/// What `vouch-order` writes for an input: a network file, or the line for a refusal.
+pub fn convert(input: &[u8]) -> Vec<u8> {
+    let mut out = vec![0; file_length(LINKS)];
+    let written = order(as_cut(input), &mut out);
+    match written.refusal {
+        0 => out[..file_length(written.m)].to_vec(),
+        number => refused(number, written.link).into_bytes(),
+    }
+}
+
+/// What is read of an input.
+fn as_cut(input: &[u8]) -> &[u8] {
+    &input[..input.len().min(INPUT)]
+}
+
+/// The line for a refusal.
+fn refused(number: u16, link: u16) -> String {
+    if names_link(number) {
+        format!("refused {number} at {link}\n")
+    } else {
+        format!("refused {number}\n")
     }
 }
 

@@ -1,4 +1,4 @@
-//! Writes the networks of the folder `samples` into the folder that is named:
+//! Writes the networks of the folder `samples`, and the conversions of those that are not in order, into the folder that is named:
 //! `cargo run --manifest-path tests/networks/Cargo.toml samples`.
 use networks::{all_links, encode, Draw, Link, Network};
 use std::collections::HashSet;
@@ -20,6 +20,12 @@ fn scatter(draw: &mut Draw, n: usize, m: usize, links: &mut Vec<Link>) {
     }
 }
 
+/// The file with its links in order.
+fn in_order(n: usize, mut links: Vec<Link>) -> Vec<u8> {
+    links.sort();
+    network(n, &links)
+}
+
 /// A network of full size: each of 30 vouchers vouches for each of 40 members, and all other links are random.
 fn planted_ring() -> Vec<u8> {
     let (n, m) = (2048, 8192);
@@ -27,12 +33,12 @@ fn planted_ring() -> Vec<u8> {
     let vouched: Vec<usize> = (0..40).map(|j| 43 * j + 11).collect();
     let mut links = all_links(&vouchers, &vouched);
     scatter(&mut Draw::new(2026), n, m, &mut links);
-    network(n, &links)
+    in_order(n, links)
 }
 
-/// Two rings among 30 members: each of 5 vouches for each of 6, and 5 others vouch for each other. 12 links are random, and all stand
-/// in random order.
-fn two_rings() -> Vec<u8> {
+/// Two rings among 30 members: each of 5 vouches for each of 6, and 5 others vouch for each other. 12 links are random. The file in
+/// order, and one of the same links in random order.
+fn two_rings() -> [Vec<u8>; 2] {
     let (n, m) = (30, 62);
     let circle = [0, 6, 11, 18, 28];
     let mut links = all_links(&circle, &circle);
@@ -41,7 +47,15 @@ fn two_rings() -> Vec<u8> {
     let mut draw = Draw::new(2026);
     scatter(&mut draw, n, m, &mut links);
     draw.shuffle(&mut links);
-    network(n, &links)
+    let shuffled = network(n, &links);
+    [in_order(n, links), shuffled]
+}
+
+/// Network W with links 2 and 3 exchanged.
+fn exchanged() -> Vec<u8> {
+    let mut network = Network::w();
+    network.links.swap(2, 3);
+    encode(&network)
 }
 
 /// Network W with one byte changed.
@@ -53,10 +67,11 @@ fn changed(at: usize, byte: u8) -> Vec<u8> {
 
 fn main() {
     let folder = env::args().nth(1).expect("the folder to write into");
-    let write = |name: &str, file: &[u8]| {
-        let path = Path::new(&folder).join(name).with_extension("vch");
+    let write_as = |kind: &str, name: &str, file: &[u8]| {
+        let path = Path::new(&folder).join(name).with_extension(kind);
         fs::write(path, file).expect("the folder can be written");
     };
+    let write = |name: &str, file: &[u8]| write_as("vch", name, file);
     let w = encode(&Network::w());
     write("w", &w);
     write("star", &network(4, &[(0, 1), (0, 2), (0, 3)]));
@@ -65,7 +80,10 @@ fn main() {
     write("one-offs", &encode(&Network::one_offs()));
     write("twelve", &encode(&Network::rings(12)));
     write("planted-ring", &planted_ring());
-    write("two-rings", &two_rings());
+    let [in_order, shuffled] = two_rings();
+    write("two-rings", &in_order);
+    write("old-order", &shuffled);
+    write_as("ordered", "old-order", &in_order);
     write("quiet", &network(5, &[]));
     write("empty", &network(0, &[]));
     write("nothing", &[]);
@@ -75,4 +93,6 @@ fn main() {
     write("damaged-length", &w[..40]);
     write("damaged-end", &changed(9 + 4 * 2 + 2, 6));
     write("damaged-repeat", &changed(9 + 4 * 3 + 2, 3));
+    write("damaged-order", &exchanged());
+    write_as("ordered", "damaged-order", &w);
 }

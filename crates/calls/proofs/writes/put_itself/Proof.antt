@@ -24,10 +24,10 @@ returns c =
 
 -- past it the file has its header
 headed : (c : tie.Else1) → Headed (c .before .before .before .args .file .now)
-headed c = c .before .before .before .pre .0 .headed (omega (arith, c .if1 .left))
+headed c = c .before .before .before .pre .0 .sound .header .headed (omega (arith, c .if1 .left))
 
 copy-requires : tie.Need-copy-requires
-copy-requires c κs = omega (arith, headed (c .before) .exact, c .before .before .before .before .pre .1 .1)
+copy-requires c κs = omega (arith, headed (c .before) .exact, c .before .before .before .before .pre .1)
 
 same-length-2 : tie.Need-same-length-2
 same-length-2 c = search needs
@@ -40,7 +40,7 @@ returns-2 : tie.Need-returns-2
 returns-2 c =
     let e = c .before .before .before .before in
     let s = e .before .before .before in
-    c .before .before .copy .ensures ∙ ap (sets (s .args .out .now) 0) (sym (written-itself (s .args .file .now) (bytes e) (headed e) (s .pre .1 .0)))
+    c .before .before .copy .ensures ∙ ap (sets (s .args .out .now) 0) (sym (written-itself (s .args .file .now) (bytes e) (headed e) (s .pre .0 .ascending)))
 
 pub put-itself-spec : {M : Type 1} → statement M
 put-itself-spec =

@@ -3,8 +3,8 @@ use crate::case::Case;
 use crate::indexes::try_indexes;
 use crate::inside::{everyone, lend, lent_groups, tries_inside, Groups};
 use crate::table::{lengths_to_try, Table};
-use cogsplice::lent;
-use networks::{root, Network};
+use cogsplice::lent::{self, WriteNumbers};
+use networks::{encode, root, Network};
 use reference::{file_length, work_length};
 use std::fmt::Debug;
 
@@ -99,41 +99,64 @@ fn try_counts(case: &mut Case) {
     }
 }
 
-fn try_writes(case: &mut Case) {
-    let m = case.claimed().1;
-    for [length] in lengths_to_try(&mut case.draw, [file_length(m)]) {
-        let mut out = Table::bytes(&mut case.draw, length);
-        let mut library_out = out.clone();
-        let expected = reference::write(&case.file, out.lend());
-        let given = lent::write(&case.file, library_out.lend());
-        case.seen(expected.refusal);
-        case.compare(
-            || format!("write, length {length}"),
-            (expected, out),
-            (given, library_out),
-        );
+/// The writer and the conversion.
+pub fn try_writes(case: &mut Case) {
+    try_write(case, "write", reference::write, lent::write);
+    try_write(case, "order", reference::order, lent::order);
+    if reference::read(&case.file).is_ok() {
+        try_copy(case);
     }
-    if let Ok(network) = reference::read(&case.file) {
+    if let Ok(network) = reference::read_any_order(&case.file) {
         try_write_again(case, network);
     }
 }
 
-/// A written file is accepted, holds the same links, and is written again as the same bytes.
+/// A call that writes a file.
+type Write = fn(&[u8], &mut [u8]) -> WriteNumbers;
+
+fn try_write(case: &mut Case, call: &str, reference: Write, library: Write) {
+    let m = case.claimed().1;
+    for [length] in lengths_to_try(&mut case.draw, [file_length(m)]) {
+        let mut out = Table::bytes(&mut case.draw, length);
+        let mut library_out = out.clone();
+        let expected = reference(&case.file, out.lend());
+        let given = library(&case.file, library_out.lend());
+        case.seen(expected.refusal);
+        case.compare(
+            || format!("{call}, length {length}"),
+            (expected, out),
+            (given, library_out),
+        );
+    }
+}
+
+/// An accepted file is written as it stands, and zero bytes as the file that they count as.
+fn try_copy(case: &mut Case) {
+    let mut copied = case.file.clone();
+    if copied.is_empty() {
+        copied = encode(&Network::new(0, &[]));
+    }
+    let mut out = vec![0; copied.len()];
+    lent::write(&case.file, &mut out);
+    case.compare(|| "write: a copy".into(), copied, out);
+}
+
+/// What the conversion writes is accepted, holds the same links, and is written again as the same bytes.
 fn try_write_again(case: &mut Case, mut network: Network) {
-    let mut first = vec![0; file_length(network.links.len())];
-    lent::write(&case.file, &mut first);
-    let mut again = vec![0; first.len()];
-    let answer = lent::write(&first, &mut again);
-    let numbers = (answer.refusal, answer.m);
-    case.compare(
-        || "write again: m".into(),
-        (0, network.links.len()),
-        numbers,
-    );
-    case.compare(|| "write again: bytes".into(), &first, &again);
+    let m = network.links.len();
+    let mut first = vec![0; file_length(m)];
+    lent::order(&case.file, &mut first);
     network.links.sort();
     let written = reference::read(&first);
-    case.compare(|| "write again: links".into(), Ok(network), written);
+    case.compare(|| "order: links".into(), Ok(network), written);
+    let calls: [(&str, Write); 2] = [("write", lent::write), ("order", lent::order)];
+    for (call, write) in calls {
+        let mut again = vec![0; first.len()];
+        let answer = write(&first, &mut again);
+        let numbers = (answer.refusal, answer.m);
+        case.compare(|| format!("{call} again: m"), (0, m), numbers);
+        case.compare(|| format!("{call} again: bytes"), &first, &again);
+    }
 }
 
 fn try_core(case: &mut Case, x: u16, y: u16) {

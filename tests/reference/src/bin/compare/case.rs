@@ -12,7 +12,7 @@ pub struct Tally {
     pub comparisons: u64,
     pub differences: u64,
     /// For each refusal number, how many answers had it; for 0, how many were accepted.
-    pub refusals: [u64; 15],
+    pub refusals: [u64; 16],
 }
 
 impl Tally {

@@ -1,13 +1,23 @@
-//! Files that are refused: each of the numbers 1 to 8 alone and in pairs, and accepted files with changed bytes.
-use crate::calls::{try_all, try_check};
+//! Files that are refused: each of the numbers 1 to 8 and 15 alone and in pairs, and accepted files with changed bytes.
+use crate::calls::{try_all, try_check, try_writes};
 use crate::case::Case;
-use crate::networks::{full_file, medium_file, roomy_network, small_file};
+use crate::kinds::disorder;
+use crate::networks::{disorder_file, full_file, medium_file, roomy_network, small_file};
 use cogsplice::lent;
 use networks::{encode, Draw, Link, Network};
 use reference::{file_length, first_of};
 
 /// The numbers that a file's own bytes are refused with.
-pub const FILE_FAULTS: u16 = 8;
+pub const FILE_FAULTS: [u16; 9] = [1, 2, 3, 4, 5, 6, 7, 8, 15];
+
+/// The number for a file as the conversion takes it: links may stand in any order.
+pub fn by_old_rule(fault: u16) -> u16 {
+    if fault == 15 {
+        0
+    } else {
+        fault
+    }
+}
 
 /// A file with n members and links that is faulty by these numbers. The first of them in order refuses it.
 pub fn faulty_file(draw: &mut Draw, network: &Network, faults: &[u16]) -> Vec<u8> {
@@ -22,6 +32,11 @@ pub fn faulty_file(draw: &mut Draw, network: &Network, faults: &[u16]) -> Vec<u8
     if has(7) {
         name_stranger(draw, faulty.n, &mut faulty.links);
     }
+    if has(15) {
+        disorder(draw, &mut faulty.links);
+    } else {
+        faulty.links.sort();
+    }
     if has(5) {
         let m = draw.pick(&[8193, 8193, 8194, 16_384, 65_535]);
         faulty.links.resize(m, (0, 0));
@@ -31,7 +46,7 @@ pub fn faulty_file(draw: &mut Draw, network: &Network, faults: &[u16]) -> Vec<u8
         file[draw.below(3)] ^= draw.among(1, 255) as u8;
     }
     if has(3) {
-        let version: u16 = draw.pick(&[0, 3, 0x0100, 0x0101, 0xffff]);
+        let version: u16 = draw.pick(&[0, 2, 3, 0x0100, 0x0101, 0xffff]);
         file[3..5].copy_from_slice(&version.to_le_bytes());
     }
     if has(6) {
@@ -51,7 +66,7 @@ fn repeat_link(draw: &mut Draw, links: &mut [Link]) {
     }
 }
 
-/// Has a link name a member not below n: often the last one, so that a repeat stands before it.
+/// Has a link name a member not below n: often the last one, so that a repeat stands before it where the order stays.
 fn name_stranger(draw: &mut Draw, n: usize, links: &mut [Link]) {
     let last = links.len() - 1;
     let place = draw.pick(&[last, last, 0, last / 2]);
@@ -75,25 +90,37 @@ fn change_length(draw: &mut Draw, file: &mut Vec<u8>) {
 
 /// The pairs of faults by turns; a number paired with itself stands alone.
 pub fn pairs(case: &mut Case) {
-    let all: Vec<(u16, u16)> = (1..=FILE_FAULTS)
-        .flat_map(|low| (low..=FILE_FAULTS).map(move |high| (low, high)))
+    let faults = FILE_FAULTS.iter().enumerate();
+    let all: Vec<(u16, u16)> = faults
+        .flat_map(|(place, &first)| {
+            FILE_FAULTS[place..]
+                .iter()
+                .map(move |&later| (first, later))
+        })
         .collect();
-    let (low, high) = all[case.number as usize % all.len()];
+    let (first, later) = all[case.number as usize % all.len()];
     let network = roomy_network(case);
-    case.kind += &format!(", faults {low} and {high}");
-    case.file = faulty_file(&mut case.draw, &network, &[low, high]);
+    case.kind += &format!(", faults {first} and {later}");
+    case.file = faulty_file(&mut case.draw, &network, &[first, later]);
     let given = lent::check(&case.file).refusal;
-    let expected = first_of(&[low, high]);
+    let expected = first_of(&[first, later]);
     case.compare(|| "check: the first in order".into(), expected, given);
+    let mut out = vec![0; file_length(case.claimed().1)];
+    let given = lent::order(&case.file, &mut out).refusal;
+    let expected = first_of(&[first, later].map(by_old_rule));
+    case.compare(|| "order: the first in order".into(), expected, given);
     try_all(case);
 }
 
-/// An accepted file with some bytes or bits changed, taken out or put in.
+/// A file, accepted or with its links in another order, with some bytes or bits changed, taken out or put in.
 pub fn changed_file(case: &mut Case) {
     match case.draw.below(300) {
         0 => full_file(case),
         1..=9 => medium_file(case),
         _ => small_file(case),
+    }
+    if case.draw.one_in(3) {
+        disorder_file(case);
     }
     let (draw, file) = (&mut case.draw, &mut case.file);
     for _ in 0..draw.among(1, 3) {
@@ -119,9 +146,10 @@ pub fn changes(case: &mut Case) {
     try_all(case);
 }
 
-/// Every length from nothing to a few bytes too many.
+/// Every length from nothing to a few bytes too many, of a file in order or not.
 pub fn lengths(case: &mut Case) {
     small_file(case);
+    let descends = case.draw.one_in(2) && disorder_file(case);
     let whole = case.file.clone();
     for length in 0..whole.len() + 6 {
         case.file = whole.clone();
@@ -129,11 +157,13 @@ pub fn lengths(case: &mut Case) {
         let expected = match length {
             0 => 0,
             1..=8 => 1,
-            _ if length == file_length(case.claimed().1) => 0,
-            _ => 6,
+            _ if length != file_length(case.claimed().1) => 6,
+            _ if descends => 15,
+            _ => 0,
         };
         let given = lent::check(&case.file).refusal;
         case.compare(|| format!("check: length {length}"), expected, given);
         try_check(case);
+        try_writes(case);
     }
 }

@@ -2,6 +2,7 @@
 use crate::calls::try_all;
 use crate::case::Case;
 use crate::inside::Groups;
+use crate::one_order::try_one_order;
 use cogsplice::lent;
 use networks::{encode, Link, Network};
 use reference::work_length;
@@ -16,7 +17,14 @@ struct Search {
     within: Pair,
 }
 
-/// Bit a × n + b of a picture stands for the link from a to b. All pictures for n up to 3 come first, then random ones for 4.
+/// The network of a picture, whose bit a × n + b stands for the link from a to b; its links are in order.
+pub fn of_picture(n: usize, picture: usize) -> Network {
+    let places = (0..n * n).filter(|place| picture >> place & 1 == 1);
+    let links = places.map(|place| (place / n, place % n)).collect();
+    Network { n, links }
+}
+
+/// All pictures for n up to 3 come first, then random ones for 4.
 fn pictured(case: &mut Case) -> Network {
     let mut number = case.number as usize;
     let mut n = 0;
@@ -29,10 +37,7 @@ fn pictured(case: &mut Case) -> Network {
     } else {
         case.draw.below(1 << 16)
     };
-    let places = (0..n * n).filter(|place| picture >> place & 1 == 1);
-    let mut links: Vec<_> = places.map(|place| (place / n, place % n)).collect();
-    case.draw.shuffle(&mut links);
-    Network { n, links }
+    of_picture(n, picture)
 }
 
 /// A and B to search inside: all of them for n up to 2, else everyone and three drawn pairs.
@@ -139,6 +144,7 @@ pub fn enumerate(case: &mut Case) {
     case.kind = kind.clone();
     case.file = encode(&network);
     try_all(case);
+    try_one_order(case, &network);
     for within in withins(case, network.n) {
         case.kind = format!("{kind}, inside {:#b} and {:#b}", within.0, within.1);
         let network = network.clone();

@@ -1,5 +1,6 @@
 //! Networks of many kinds, for any number of members and any limit of links.
 use networks::{root, Draw, Link, Network};
+use std::cmp::Reverse;
 
 /// A kind of network: its links among n members, about m at most. Repeats are taken out later.
 pub struct Kind {
@@ -82,7 +83,7 @@ pub static KINDS: [Kind; 18] = [
     },
 ];
 
-/// A network of a kind with n members and at most m links, its members renamed and its links in some order.
+/// A network of a kind with n members and at most m links, its members renamed and its links in order.
 pub fn network(draw: &mut Draw, kind: &Kind, n: usize, m: usize) -> Network {
     if n == 0 {
         return Network {
@@ -102,12 +103,32 @@ pub fn network(draw: &mut Draw, kind: &Kind, n: usize, m: usize) -> Network {
     for link in &mut links {
         *link = (names[link.0], names[link.1]);
     }
-    match draw.below(4) {
-        0 => links.sort(),
-        1 => links.sort_by(|left, right| right.cmp(left)),
-        _ => (),
-    }
+    links.sort();
     Network { n, links }
+}
+
+/// Whether a link comes before the one preceding it.
+fn descends(links: &[Link]) -> bool {
+    links.windows(2).any(|pair| pair[1] < pair[0])
+}
+
+/// Puts links, at least two of them different, in an order that descends: now and then all the way, or at one place alone.
+pub fn disorder(draw: &mut Draw, links: &mut [Link]) {
+    loop {
+        let place = draw.below(links.len() - 1);
+        match draw.below(7) {
+            0 => links.sort_by_key(|&link| Reverse(link)),
+            1 => links.sort_by_key(|&(a, b)| (b, a)),
+            2 => links.sort_by_key(|&(a, b)| (a, Reverse(b))),
+            3 => links.swap(place, place + 1),
+            4 => links[place..].rotate_left(1),
+            5 => links[place..].rotate_right(1),
+            _ => draw.shuffle(links),
+        }
+        if descends(links) {
+            return;
+        }
+    }
 }
 
 fn pairs(draw: &mut Draw, n: usize, count: usize) -> Vec<Link> {

@@ -1,8 +1,8 @@
 //! Compares the library with the reference, and both with the examples of the paper that fixes the terms.
 //!
 //! `cargo run --release` runs every part; `cargo run --release -- PART` one part, and `-- PART CASE` one case again. The environment
-//! may give another `SEED` than the usual one (decimal, or hexadecimal after 0x) and the path of the report program as
-//! `VOUCH_REPORT`. The program exits with 1 where anything differs.
+//! may give another `SEED` than the usual one (decimal, or hexadecimal after 0x) and the paths of the two programs as `VOUCH_REPORT` and
+//! `VOUCH_ORDER`. This program exits with 1 where anything differs.
 mod calls;
 mod case;
 mod damage;
@@ -11,6 +11,7 @@ mod indexes;
 mod inside;
 mod kinds;
 mod networks;
+mod one_order;
 mod order;
 mod paper;
 mod program;
@@ -60,7 +61,7 @@ const PARTS: [Part; 12] = [
     },
     Part {
         name: "fault-pairs",
-        cases: 720,
+        cases: 900,
         run: damage::pairs,
     },
     Part {
@@ -90,7 +91,7 @@ const PARTS: [Part; 12] = [
     },
     Part {
         name: "program",
-        cases: 324,
+        cases: 360,
         run: program::program,
     },
 ];
@@ -148,8 +149,11 @@ fn run() -> Result<Tally, String> {
         let names = PARTS.map(|part| part.name).join(", ");
         return Err(format!("no such part; the parts are {names}"));
     }
-    if !program::path().exists() && parts.iter().any(|part| part.name == "program") {
-        return Err(format!("{} is missing", program::path().display()));
+    if parts.iter().any(|part| part.name == "program") {
+        let mut paths = program::PROGRAMS.iter().map(|program| program.path());
+        if let Some(missing) = paths.find(|path| !path.exists()) {
+            return Err(format!("{} is missing", missing.display()));
+        }
     }
     println!("seed {seed:#x}");
     let mut sum = Tally::default();

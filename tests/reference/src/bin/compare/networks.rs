@@ -1,9 +1,10 @@
-//! Accepted files of three sizes.
+//! Accepted files of three sizes, and the same links in another order.
 use crate::calls::try_all;
 use crate::case::Case;
-use crate::kinds::{network, Kind, KINDS};
+use crate::kinds::{disorder, network, Kind, KINDS};
+use cogsplice::lent;
 use networks::{encode, Network};
-use reference::{LINKS, MEMBERS};
+use reference::{read, LINKS, MEMBERS};
 
 /// Makes the case's file: of a kind, with n members and at most m links. Every second one without members is of no bytes.
 fn set_file(case: &mut Case, kind: &Kind, n: usize, m: usize) -> Network {
@@ -56,7 +57,20 @@ pub fn largest_file(case: &mut Case) {
     }
 }
 
-/// A network with at least 2 members and 3 links, so that every fault fits in; mostly small, now and then large.
+/// Puts the links of the case's accepted file in an order that descends, where there are two; whether there are.
+pub fn disorder_file(case: &mut Case) -> bool {
+    match read(&case.file) {
+        Ok(mut network) if network.links.len() >= 2 => {
+            disorder(&mut case.draw, &mut network.links);
+            case.kind += ", in another order";
+            case.file = encode(&network);
+            true
+        }
+        _ => false,
+    }
+}
+
+/// A network with at least 2 members and 4 links, so that every fault fits in; mostly small, now and then large.
 pub fn roomy_network(case: &mut Case) -> Network {
     let large = case.draw.one_in(20);
     loop {
@@ -68,7 +82,7 @@ pub fn roomy_network(case: &mut Case) -> Network {
             (small, small * small)
         };
         let network = set_file(case, kind, n, m);
-        if network.links.len() >= 3 {
+        if network.links.len() >= 4 {
             return network;
         }
     }
@@ -76,15 +90,35 @@ pub fn roomy_network(case: &mut Case) -> Network {
 
 pub fn small(case: &mut Case) {
     small_file(case);
-    try_all(case);
+    try_orders(case);
 }
 
 pub fn medium(case: &mut Case) {
     medium_file(case);
-    try_all(case);
+    try_orders(case);
 }
 
+/// Another order of so many links takes the reference long: one in three is enough.
 pub fn full(case: &mut Case) {
     full_file(case);
+    if case.draw.one_in(3) {
+        try_orders(case);
+    } else {
+        try_all(case);
+    }
+}
+
+/// Every call on the case's accepted file, then on the same links in another order: 15 refuses it, and the conversion gives the accepted
+/// file back.
+fn try_orders(case: &mut Case) {
     try_all(case);
+    let accepted = case.file.clone();
+    if disorder_file(case) {
+        let refusal = lent::check(&case.file).refusal;
+        case.compare(|| "check: in another order".into(), 15, refusal);
+        let mut converted = vec![0; accepted.len()];
+        lent::order(&case.file, &mut converted);
+        case.compare(|| "order: the accepted file".into(), accepted, converted);
+        try_all(case);
+    }
 }

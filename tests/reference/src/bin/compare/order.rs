@@ -1,6 +1,6 @@
-//! The numbers 9, 11 and 12 alone, together, and together with each of 1 to 8: the first in order refuses.
+//! The numbers 9, 11 and 12 alone, together, and together with each of 1 to 8 and 15: the first in order refuses.
 use crate::case::Case;
-use crate::damage::{faulty_file, FILE_FAULTS};
+use crate::damage::{by_old_rule, faulty_file, FILE_FAULTS};
 use crate::inside::{everyone, lend, Groups};
 use crate::networks::roomy_network;
 use cogsplice::lent;
@@ -57,6 +57,7 @@ const SHORT_A: Shorten = |given| shorten(&mut given.inside[0]);
 const SHORT_B: Shorten = |given| shorten(&mut given.inside[1]);
 const SHORT_S: Shorten = |given| shorten(&mut given.groups[0]);
 const SHORT_T: Shorten = |given| shorten(&mut given.groups[1]);
+const SHORT_OUT: Shorten = |given| shorten(&mut given.out);
 const SHORT_WORK: Shorten = |given| shorten(&mut given.work);
 
 /// The first byte of A, and the last of B that is there.
@@ -84,7 +85,7 @@ const CALLS: [Call; 11] = [
     },
     Call {
         name: "write",
-        shorten: &[|given| shorten(&mut given.out)],
+        shorten: &[SHORT_OUT],
         spoil: &[],
         refusal: |file, given| lent::write(file, &mut given.out).refusal,
     },
@@ -163,6 +164,14 @@ const CALLS: [Call; 11] = [
     },
 ];
 
+/// The conversion, for which 15 is no fault of a file.
+const CONVERSION: Call = Call {
+    name: "order",
+    shorten: &[SHORT_OUT],
+    spoil: &[],
+    refusal: |file, given| lent::order(file, &mut given.out).refusal,
+};
+
 fn index(file: &[u8], given: &mut Given) -> u16 {
     let ([out_starts, in_starts], [out_rows, in_rows]) = (&mut given.starts, &mut given.rows);
     lent::index(file, out_starts, out_rows, in_starts, in_rows).refusal
@@ -182,18 +191,19 @@ fn finding(file: &[u8], given: &mut Given) -> u16 {
 /// without links, which no number refuses.
 pub fn order(case: &mut Case) {
     let network = roomy_network(case);
-    try_calls(case, &network, FILE_FAULTS);
-    // 7 and 8 are faults of links.
-    try_calls(case, &Network::new(network.n, &[]), 6);
+    try_calls(case, &network, &FILE_FAULTS);
+    // 7, 8 and 15 are faults of links.
+    try_calls(case, &Network::new(network.n, &[]), &FILE_FAULTS[..6]);
 }
 
-/// Every call on the network's file, faulty by each of the numbers up to the last or by none.
-fn try_calls(case: &mut Case, network: &Network, last: u16) {
-    for fault in 0..=last {
+/// Every call on the network's file, faulty by none or by each of the numbers.
+fn try_calls(case: &mut Case, network: &Network, faults: &[u16]) {
+    for &fault in [0].iter().chain(faults) {
         case.file = faulty_file(&mut case.draw, network, &[fault]);
         for call in &CALLS {
             try_call(case, network, call, fault);
         }
+        try_call(case, network, &CONVERSION, by_old_rule(fault));
     }
 }
 

@@ -1,19 +1,73 @@
-//! The examples and limits that the papers name, and the layers and harmonic pairs of these examples and W among some members as worked out
-//! by hand, by the reference and by the library.
+//! The examples and limits that the papers name, and the layers and harmonic pairs of these examples, W among some members and links in and
+//! out of order as worked out by hand, by the reference and by the library.
 use crate::calls::try_all;
 use crate::case::Case;
+use crate::damage::by_old_rule;
 use crate::inside::{lend, Groups};
 use cogsplice::lent::{
     self, CheckNumbers, FindingNumbers, LayersNumbers, LevelNumbers, TotalsNumbers, WriteNumbers,
 };
 use networks::{encode, Link, Network};
-use reference::{report, work_length};
+use reference::{file_length, report, work_length};
 
 /// What 01 prints for network W.
 const W_REPORT: &str = "x 2 y 3 equal 2\nlinks 6 vouchers 3 vouched 2\nS 0 1 2\nT 3 4\n";
 
 /// What is printed for a quiet month.
 const QUIET_REPORT: &str = "x 0 y 0 equal 0\nlinks 0 vouchers 0 vouched 0\nS\nT\n";
+
+/// The members of the examples of order: enough for numbers of two bytes.
+const PLENTY: usize = 300;
+
+/// Links, the refusal and the link's number of their check, and the links as the conversion writes them, none where it refuses them.
+type Order = (&'static [Link], (u16, u16), &'static [Link]);
+
+const ORDERS: [Order; 22] = [
+    (&[], (0, 0), &[]),
+    (&[(2, 1)], (0, 0), &[(2, 1)]),
+    (&[(2, 1), (2, 2)], (0, 0), &[(2, 1), (2, 2)]),
+    // By voucher alone, by vouched alone, and the voucher before the vouched.
+    (&[(1, 0), (0, 0)], (15, 1), &[(0, 0), (1, 0)]),
+    (&[(0, 2), (0, 1)], (15, 1), &[(0, 1), (0, 2)]),
+    (&[(1, 0), (0, 1)], (15, 1), &[(0, 1), (1, 0)]),
+    (&[(0, 1), (1, 0)], (0, 0), &[(0, 1), (1, 0)]),
+    // Numbers, not bytes, are in order.
+    (&[(255, 0), (256, 0)], (0, 0), &[(255, 0), (256, 0)]),
+    (&[(256, 0), (255, 0)], (15, 1), &[(255, 0), (256, 0)]),
+    (&[(0, 255), (0, 256)], (0, 0), &[(0, 255), (0, 256)]),
+    (&[(0, 256), (0, 255)], (15, 1), &[(0, 255), (0, 256)]),
+    (&[(0, 299), (1, 0)], (0, 0), &[(0, 299), (1, 0)]),
+    // The first of several, at the start, in between and at the end.
+    (
+        &[(0, 1), (0, 0), (2, 2), (1, 1)],
+        (15, 1),
+        &[(0, 0), (0, 1), (1, 1), (2, 2)],
+    ),
+    (
+        &[(0, 0), (2, 0), (1, 2), (1, 1)],
+        (15, 2),
+        &[(0, 0), (1, 1), (1, 2), (2, 0)],
+    ),
+    (
+        &[(1, 0), (1, 1), (2, 2), (0, 2)],
+        (15, 3),
+        &[(0, 2), (1, 0), (1, 1), (2, 2)],
+    ),
+    // The last link comes before an earlier one, but not before the one preceding it.
+    (
+        &[(0, 0), (2, 2), (1, 0), (1, 1)],
+        (15, 2),
+        &[(0, 0), (1, 0), (1, 1), (2, 2)],
+    ),
+    // Equal neighbours are a repeat and no descent; a repeat before, behind and at the place of a descent.
+    (&[(0, 1), (0, 1)], (8, 1), &[]),
+    (&[(1, 1), (1, 1), (0, 0)], (8, 1), &[]),
+    (&[(1, 1), (0, 0), (2, 2), (2, 2)], (8, 3), &[]),
+    (&[(0, 0), (1, 1), (0, 0)], (8, 2), &[]),
+    // A stranger behind a descent, and behind a descent and a repeat.
+    (&[(1, 1), (0, 0), (0, 300)], (7, 2), &[]),
+    (&[(1, 1), (0, 0), (0, 0), (300, 0)], (7, 3), &[]),
+];
 
 fn set(case: &mut Case, kind: &str, n: usize, links: &[Link]) {
     case.kind = kind.into();
@@ -91,6 +145,7 @@ pub fn paper(case: &mut Case) {
     expect_no_bytes(case);
     expect_short(case);
     expect_limits(case);
+    expect_orders(case);
 }
 
 /// An even pair comes before a star of the same product: 02's example, and the rings [1,12], [2,6], [3,4], [4,3], [6,2] and [12,1].
@@ -328,7 +383,7 @@ fn expect_quiet(case: &mut Case) {
     try_all(case);
 }
 
-/// Zero bytes count as the file with n 0 and m 0, which the writer writes.
+/// Zero bytes count as the file with n 0 and m 0, which the writer and the conversion write.
 fn expect_no_bytes(case: &mut Case) {
     case.kind = "no bytes".into();
     case.file = Vec::new();
@@ -341,19 +396,47 @@ fn expect_no_bytes(case: &mut Case) {
     let plain = reference::check(&case.file);
     case.compare(|| "check: reference".into(), checked, plain);
     case.compare(|| "check".into(), checked, lent::check(&case.file));
-    let written = WriteNumbers {
-        refusal: 0,
-        link: 0,
-        m: 0,
-    };
-    let wanted = (written, *b"VCH\x01\0\0\0\0\0\x07");
-    let mut out = [7; 10];
-    let plain = reference::write(&case.file, &mut out);
-    case.compare(|| "write: reference".into(), wanted, (plain, out));
-    let mut out = [7; 10];
-    let given = lent::write(&case.file, &mut out);
-    case.compare(|| "write".into(), wanted, (given, out));
+    let file = b"VCH\x01\0\0\0\0\0";
+    expect_written(case, "write: reference", reference::write, (0, 0), file);
+    expect_written(case, "write", lent::write, (0, 0), file);
+    expect_written(case, "order: reference", reference::order, (0, 0), file);
+    expect_written(case, "order", lent::order, (0, 0), file);
     expect_quiet(case);
+}
+
+/// The refusal, the link's number and the file that a call writes, none where it is refused. The output's other bytes stay.
+fn expect_written(
+    case: &mut Case,
+    call: &str,
+    write: fn(&[u8], &mut [u8]) -> WriteNumbers,
+    (refusal, link): (u16, u16),
+    file: &[u8],
+) {
+    let m = case.claimed().1;
+    let expected = WriteNumbers {
+        refusal,
+        link,
+        m: if refusal == 0 { m } else { 0 },
+    };
+    let mut out = vec![7; file_length(m) + 1];
+    let mut wanted = out.clone();
+    wanted[..file.len()].copy_from_slice(file);
+    let given = write(&case.file, &mut out);
+    case.compare(|| call.into(), (expected, wanted), (given, out));
+}
+
+/// Links in order and out of order: the check, and the file that the conversion writes.
+fn expect_orders(case: &mut Case) {
+    for (links, refusal, ordered) in ORDERS {
+        expect_check(case, refusal, PLENTY, links);
+        let (refusal, file) = match by_old_rule(refusal.0) {
+            0 => ((0, 0), encode(&Network::new(PLENTY, ordered))),
+            _ => (refusal, Vec::new()),
+        };
+        expect_written(case, "order: reference", reference::order, refusal, &file);
+        expect_written(case, "order", lent::order, refusal, &file);
+        try_all(case);
+    }
 }
 
 /// 1 to 8 bytes are refused by 1, whatever they are the start of.
@@ -372,14 +455,14 @@ fn expect_short(case: &mut Case) {
 
 /// The limits of n, m and a link's members.
 fn expect_limits(case: &mut Case) {
-    let links = |m: usize| -> Vec<Link> { (0..m).map(|i| (i % 2048, i / 2048)).collect() };
+    let links = |m: usize| -> Vec<Link> { (0..m).map(|i| (i / 4, i % 4)).collect() };
     expect_check(case, (0, 0), 1, &[]);
     expect_check(case, (0, 0), 0, &[]);
     expect_check(case, (0, 0), 2048, &links(8192));
     expect_check(case, (4, 0), 2049, &links(8192));
     expect_check(case, (5, 0), 2048, &links(8193));
-    expect_check(case, (0, 0), 3, &[(2, 0), (0, 2)]);
-    expect_check(case, (7, 1), 3, &[(2, 0), (0, 3)]);
+    expect_check(case, (0, 0), 3, &[(0, 2), (2, 0)]);
+    expect_check(case, (7, 1), 3, &[(0, 2), (2, 3)]);
     expect_check(case, (7, 0), 0, &[(0, 0)]);
     expect_check(case, (8, 2), 3, &[(1, 2), (2, 1), (1, 2), (2, 1)]);
     expect_check(case, (7, 3), 3, &[(1, 2), (1, 2), (0, 0), (3, 0)]);
@@ -387,7 +470,7 @@ fn expect_limits(case: &mut Case) {
 
 /// The refusal and the link's number of a check.
 fn expect_check(case: &mut Case, refusal: (u16, u16), n: usize, links: &[Link]) {
-    set(case, &format!("limits, n {n}, m {}", links.len()), n, links);
+    set(case, &format!("n {n}, m {}", links.len()), n, links);
     let plain = reference::check(&case.file);
     case.compare(
         || "check: reference".into(),

@@ -1,10 +1,12 @@
-//! The report program, fed through a pipe in pieces.
+//! The two programs, fed through a pipe in pieces.
 use crate::case::Case;
 use crate::damage::{changed_file, faulty_file, FILE_FAULTS};
-use crate::networks::{full_file, largest_file, medium_file, roomy_network, small_file};
+use crate::networks::{
+    disorder_file, full_file, largest_file, medium_file, roomy_network, small_file,
+};
 use crate::paper::example_file;
 use networks::Draw;
-use reference::{report, INPUT};
+use reference::{convert, report, INPUT};
 use std::env;
 use std::io::{ErrorKind, Result, Write};
 use std::path::PathBuf;
@@ -12,20 +14,44 @@ use std::process::{ChildStdin, Command, Stdio};
 use std::thread::sleep;
 use std::time::Duration;
 
-/// The program: named by `VOUCH_REPORT`, or where the repository builds it.
-pub fn path() -> PathBuf {
-    match env::var_os("VOUCH_REPORT") {
-        Some(path) => path.into(),
-        None => PathBuf::from(env!("CARGO_MANIFEST_DIR")).join("../../target/bin/vouch_report"),
+/// A program, the variable that may name another one to run in its place, and what it writes for an input.
+pub struct Program {
+    name: &'static str,
+    variable: &'static str,
+    expected: fn(&[u8]) -> Vec<u8>,
+}
+
+pub const PROGRAMS: [Program; 2] = [
+    Program {
+        name: "vouch_report",
+        variable: "VOUCH_REPORT",
+        expected: |input| report(input).into_bytes(),
+    },
+    Program {
+        name: "vouch_order",
+        variable: "VOUCH_ORDER",
+        expected: convert,
+    },
+];
+
+impl Program {
+    /// The path in the variable, or where the repository builds the program.
+    pub fn path(&self) -> PathBuf {
+        let built = PathBuf::from(env!("CARGO_MANIFEST_DIR")).join("../../target/bin");
+        match env::var_os(self.variable) {
+            Some(path) => path.into(),
+            None => built.join(self.name),
+        }
     }
 }
 
 /// Ways to make an input.
-const INPUTS: [fn(&mut Case); 9] = [
+const INPUTS: [fn(&mut Case); 10] = [
     example_file,
     small_file,
     medium_file,
     full_file,
+    any_order,
     changed_file,
     faulty,
     over_long,
@@ -33,19 +59,29 @@ const INPUTS: [fn(&mut Case); 9] = [
     noise,
 ];
 
+/// A file of any size with its links in another order.
+fn any_order(case: &mut Case) {
+    let sizes: [fn(&mut Case); 4] = [small_file, medium_file, full_file, largest_file];
+    case.draw.pick(&sizes)(case);
+    disorder_file(case);
+}
+
 /// A file with one fault of its own bytes.
 fn faulty(case: &mut Case) {
     let network = roomy_network(case);
-    let fault = case.draw.among(1, FILE_FAULTS as usize) as u16;
+    let fault = case.draw.pick(&FILE_FAULTS);
     case.kind += &format!(", fault {fault}");
     case.file = faulty_file(&mut case.draw, &network, &[fault]);
 }
 
-/// An accepted file with more bytes after it, around the most that the program reads and far past it.
+/// A file with more bytes after it, around the most that the programs read and far past it.
 fn over_long(case: &mut Case) {
     match case.draw.below(3) {
         0 => small_file(case),
         _ => largest_file(case),
+    }
+    if case.draw.one_in(2) {
+        disorder_file(case);
     }
     let length = case
         .draw
@@ -82,9 +118,9 @@ fn feed(draw: &mut Draw, mut pipe: ChildStdin, input: &[u8]) -> Result<()> {
     Ok(())
 }
 
-/// The exit code and the text of the program for the case's file. It may stop reading early: a closed pipe is no fault.
-fn run(case: &mut Case) -> Result<(Option<i32>, String)> {
-    let mut command = Command::new(path());
+/// The exit code of a program and what it writes for the case's file. It may stop reading early: a closed pipe is no fault.
+fn run(case: &mut Case, program: &Program) -> Result<(Option<i32>, Vec<u8>)> {
+    let mut command = Command::new(program.path());
     let mut child = command
         .stdin(Stdio::piped())
         .stdout(Stdio::piped())
@@ -95,17 +131,17 @@ fn run(case: &mut Case) -> Result<(Option<i32>, String)> {
         _ => (),
     }
     let output = child.wait_with_output()?;
-    Ok((
-        output.status.code(),
-        String::from_utf8_lossy(&output.stdout).into_owned(),
-    ))
+    Ok((output.status.code(), output.stdout))
 }
 
 pub fn program(case: &mut Case) {
     let input = INPUTS[case.number as usize % INPUTS.len()];
     case.turn = case.number / INPUTS.len() as u64;
     input(case);
-    let expected = (Some(0), report(&case.file));
-    let given = run(case).unwrap_or_else(|error| (None, error.to_string()));
-    case.compare(|| "vouch-report".into(), expected, given);
+    for program in &PROGRAMS {
+        let expected = (Some(0), (program.expected)(&case.file));
+        let given = run(case, program);
+        let given = given.unwrap_or_else(|error| (None, error.to_string().into_bytes()));
+        case.compare(|| program.name.into(), expected, given);
+    }
 }
