@@ -15,14 +15,17 @@ static const uint8_t network_w[] = {
 
 static uint8_t input[COGSPLICE_FILE(COGSPLICE_LINKS) + 1];
 
+static inline void give_up(const char *why) {
+    fprintf(stderr, "%s\n", why);
+    exit(1);
+}
+
 /* Network W, or standard input if it is named by "-". An input that cannot be read is no empty file. */
-static const uint8_t *network_file(int argc, char **argv, size_t *length) {
+static inline const uint8_t *network_file(int argc, char **argv, size_t *length) {
     if (argc > 1 && strcmp(argv[1], "-") == 0) {
         *length = fread(input, 1, sizeof input, stdin);
-        if (ferror(stdin)) {
-            fputs("standard input cannot be read\n", stderr);
-            exit(1);
-        }
+        if (ferror(stdin))
+            give_up("standard input cannot be read");
         return input;
     }
     *length = sizeof network_w;

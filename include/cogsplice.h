@@ -15,6 +15,12 @@
  * rule links could stand in any order: cogsplice_order brings a stored file into this one. Zero bytes count as the file without members
  * and links: it is for the caller to tell an empty input from one that cannot be read.
  *
+ * A journal is bytes too: the mark "VJN", the version 1 and n as in a network file, and then its entries, numbered from 0, of five bytes
+ * each: a kind of 8 bits and two numbers of 16 bits. An entry adds a link or withdraws one (COGSPLICE_ENTRY_ADD, COGSPLICE_ENTRY_WITHDRAW;
+ * voucher, then vouched), or sets a named state to the links then present or returns to one (COGSPLICE_ENTRY_SET, COGSPLICE_ENTRY_RETURN;
+ * a name from 0 to 3, then 0). It begins without links and with no named state set. A named state holds until it is set again; returning
+ * to one leaves all four as they are. Only cogsplice_journal takes a journal, and refuses one of zero bytes.
+ *
  * A group is a table of bytes, one for each member: 1 in, 0 out. S is the group of vouchers, T that of the vouched. E(S,T) is
  * the number of links whose voucher is in S and whose vouched member is in T.
  *
@@ -26,6 +32,9 @@
  * the tests: 1 to 8, 15, 9, 10, 11, 12, 14. Of 7, 8 and 15 each is tested over all links before the next. Of a refused call every other
  * number is 0, but for `link`, and no table has changed. `link` is the link's number for refusals 7, 8 and 15, else 0. A table may be
  * longer than the call needs: what lies past the needed entries is neither read nor changed.
+ *
+ * Each entry that is followed has a number too: 0 where it does what it says, else one of COGSPLICE_REFUSED_.., the first that applies
+ * in the order of the tests: 18, 10, 16, 17, 5. A refused entry is skipped: it changes nothing, and the next one is followed.
  */
 #ifndef COGSPLICE_H
 #define COGSPLICE_H
@@ -49,23 +58,39 @@ extern "C" {
 #define COGSPLICE_LAYERS(m) ((size_t)(m))                                 /* uint16_t: layers */
 #define COGSPLICE_WORK(n, m) (2 * (size_t)(m) + 6 * (size_t)(n) + 2)      /* uint16_t: work; the call's to use, its contents mean nothing */
 
+/* The same for a journal of k entries, or of which k are followed. Its output and its work table are as long for every journal. */
+#define COGSPLICE_JOURNAL(k) (7 + 5 * (size_t)(k))                        /* uint8_t: a journal */
+#define COGSPLICE_JOURNAL_OUT COGSPLICE_FILE(COGSPLICE_LINKS)             /* uint8_t: out, 32,777 */
+#define COGSPLICE_JOURNAL_NUMBERS(k) ((size_t)(k))                        /* uint8_t: numbers */
+#define COGSPLICE_JOURNAL_WORK 81920                                      /* uint16_t: work */
+
+/* The kinds of a journal's entries. */
+#define COGSPLICE_ENTRY_ADD 0      /* adds the link voucher, vouched */
+#define COGSPLICE_ENTRY_WITHDRAW 1 /* withdraws that link */
+#define COGSPLICE_ENTRY_SET 2      /* sets the named state to the links present; a name, then 0 */
+#define COGSPLICE_ENTRY_RETURN 3   /* makes the links present those of the named state; a name, then 0 */
+
 enum {
     COGSPLICE_ACCEPTED = 0,
-    COGSPLICE_REFUSED_SHORT = 1,    /* the file has 1 to 8 bytes */
-    COGSPLICE_REFUSED_MARK = 2,     /* its mark is not VCH */
+    COGSPLICE_REFUSED_SHORT = 1,    /* the file has 1 to 8 bytes; a journal has under 7 */
+    COGSPLICE_REFUSED_MARK = 2,     /* its mark is not VCH; a journal's is not VJN */
     COGSPLICE_REFUSED_VERSION = 3,  /* its version is not 1 */
     COGSPLICE_REFUSED_MEMBERS = 4,  /* n is above COGSPLICE_MEMBERS */
-    COGSPLICE_REFUSED_LINKS = 5,    /* m is above COGSPLICE_LINKS */
-    COGSPLICE_REFUSED_LENGTH = 6,   /* its length is not COGSPLICE_FILE(m) */
+    COGSPLICE_REFUSED_LINKS = 5,    /* m is above COGSPLICE_LINKS; of an entry: it adds to COGSPLICE_LINKS links */
+    COGSPLICE_REFUSED_LENGTH = 6,   /* its length is not COGSPLICE_FILE(m); a journal's is COGSPLICE_JOURNAL(k) for no k */
     COGSPLICE_REFUSED_END = 7,      /* a link names a member not below n; the first such link */
     COGSPLICE_REFUSED_REPEAT = 8,   /* a link repeats an earlier one; the first such link */
     COGSPLICE_REFUSED_TABLE = 9,    /* a lent table is shorter than the call needs */
-    COGSPLICE_REFUSED_MEMBER = 10,  /* row: the member is not below n */
+    COGSPLICE_REFUSED_MEMBER = 10,  /* row: the member is not below n; of an entry: a member of the link is not */
     COGSPLICE_REFUSED_GROUP = 11,   /* a byte among the first n of A, of B, or of a group that count is given, is neither 0 nor 1 */
     COGSPLICE_REFUSED_ZERO = 12,    /* level, level across: asked for 0 */
     /* 13 is retired: it is never given again, nor used for something else */
     COGSPLICE_REFUSED_ROW = 14,     /* row: the member's start is above the next start, or that is above the length of the rows table */
-    COGSPLICE_REFUSED_ORDER = 15    /* a link comes before the one preceding it, by voucher, then vouched; the first such link */
+    COGSPLICE_REFUSED_ORDER = 15,   /* a link comes before the one preceding it, by voucher, then vouched; the first such link */
+    /* of an entry alone */
+    COGSPLICE_REFUSED_PRESENT = 16, /* the link that it adds is present */
+    COGSPLICE_REFUSED_ABSENT = 17,  /* the link that it withdraws is absent */
+    COGSPLICE_REFUSED_ENTRY = 18    /* its kind or its name is above 3, its name is not followed by 0, or it returns to a state never set */
 };
 
 /* The side of a row: what a member vouches for, or who vouches for it. */
@@ -114,7 +139,7 @@ struct cogsplice_layers_numbers {
     size_t layers; /* K, the number of layers */
 };
 
-/* n and m of a file. Refusals 1 to 8, 15, as in every call on a file but cogsplice_order. */
+/* n and m of a file. Refusals 1 to 8, 15, as in every call on a network file but cogsplice_order. */
 struct cogsplice_check_numbers cogsplice_check(const uint8_t *file, size_t file_length);
 
 /* E(S,T), |S| and |T| of the groups s and t. Refusals 1 to 8, 15, 9, 11. */
@@ -234,6 +259,17 @@ struct cogsplice_totals_numbers cogsplice_harmonic(
     const uint8_t *file, size_t file_length,
     uint8_t *s, size_t s_length,
     uint8_t *t, size_t t_length,
+    uint16_t *work, size_t work_length);
+
+/* Follows the first `asked` entries of a journal, all where there are fewer. Writes the links then present as the file of the journal's n
+ * and these links, ascending by voucher, then vouched, into the first COGSPLICE_FILE(m) bytes of out, which every call accepts, and the
+ * number of each entry followed into numbers, which has as many bytes at the least. A finding in the file written is that of these links,
+ * however they came to be present. Refusals 1, 2, 3, 4, 6, 9: what an entry holds is no reason to refuse the call. */
+struct cogsplice_write_numbers cogsplice_journal(
+    const uint8_t *journal, size_t journal_length,
+    size_t asked,
+    uint8_t *out, size_t out_length,
+    uint8_t *numbers, size_t numbers_length,
     uint16_t *work, size_t work_length);
 
 /* Whether two findings are equal: x1, y1 of one and x2, y2 of the other. */

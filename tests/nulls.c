@@ -10,14 +10,21 @@ static const uint8_t w[] = {
     2, 0, 3, 0, 2, 0, 4, 0, 4, 0, 5, 0, 5, 0, 5, 0,
 };
 static const uint8_t nobody[] = {'V', 'C', 'H', 1, 0, 0, 0, 0, 0};
+/* Of 2 members, the one entry adds the link from 0 to 1; and a journal without entries. */
+static const uint8_t one_entry[] = {'V', 'J', 'N', 1, 0, 2, 0, COGSPLICE_ENTRY_ADD, 0, 0, 1, 0};
+static const uint8_t no_entry[] = {'V', 'J', 'N', 1, 0, 2, 0};
 
 #define W w, sizeof w
 #define NOBODY nobody, sizeof nobody
+#define ONE_ENTRY one_entry, sizeof one_entry
+#define NO_ENTRY no_entry, sizeof no_entry
 #define NONE NULL, 0
 #define ALL(table) table, sizeof table / sizeof *table
 
 static uint8_t a[6], b[6], s[6], t[6], out[COGSPLICE_FILE(8)];
 static uint16_t starts[7], other_starts[7], rows[8], other_rows[8], layers[COGSPLICE_LAYERS(8)], work[COGSPLICE_WORK(6, 8)];
+static uint8_t journal_out[COGSPLICE_JOURNAL_OUT], numbers[COGSPLICE_JOURNAL_NUMBERS(1)];
+static uint16_t journal_work[COGSPLICE_JOURNAL_WORK];
 static int faults;
 
 static void expect(const char *call, unsigned refusal, unsigned given) {
@@ -117,6 +124,18 @@ static void rows_of(bool side) {
     row(14, side, ALL(long_row));
 }
 
+/* Zero bytes are no journal. No numbers are asked for where no entry is followed. */
+static void journal(void) {
+    EXPECT(1, cogsplice_journal(NONE, 1, ALL(journal_out), ALL(numbers), ALL(journal_work)));
+    EXPECT(9, cogsplice_journal(ONE_ENTRY, 1, NONE, ALL(numbers), ALL(journal_work)));
+    EXPECT(9, cogsplice_journal(ONE_ENTRY, 1, ALL(journal_out), NONE, ALL(journal_work)));
+    EXPECT(9, cogsplice_journal(ONE_ENTRY, 1, ALL(journal_out), ALL(numbers), NONE));
+    EXPECT(0, cogsplice_journal(ONE_ENTRY, 0, ALL(journal_out), NONE, ALL(journal_work)));
+    EXPECT(0, cogsplice_journal(NO_ENTRY, SIZE_MAX, ALL(journal_out), NONE, ALL(journal_work)));
+    EXPECT(9, cogsplice_journal(NO_ENTRY, SIZE_MAX, NONE, NONE, ALL(journal_work)));
+    EXPECT(9, cogsplice_journal(NO_ENTRY, SIZE_MAX, ALL(journal_out), NONE, NONE));
+}
+
 int main(void) {
     no_table();
     enough(NOBODY);
@@ -126,5 +145,6 @@ int main(void) {
     not_enough(NONE);
     rows_of(COGSPLICE_VOUCHER);
     rows_of(COGSPLICE_VOUCHED);
+    journal();
     return faults != 0;
 }

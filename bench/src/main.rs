@@ -1,11 +1,15 @@
 //! Measures the proved library against the same calls in plain Rust, prints the tables and writes docs/BENCHMARKS.md.
+mod follow;
 mod inputs;
+mod journals;
 mod measure;
 mod plain;
 mod report;
 mod sides;
 
+use follow::follow;
 use inputs::{growing, shapes, HALVED};
+use journals::journals;
 use measure::{measure, Halved};
 use sides::{Call, Timed};
 use std::path::Path;
@@ -26,7 +30,8 @@ fn main() -> std::io::Result<()> {
         })
         .collect();
     let growth = all(growing());
-    let text = report::report(&shapes, &halves, &growth);
+    let journals: Vec<_> = journals().into_iter().map(follow).collect();
+    let text = report::report(&shapes, &halves, &growth, &journals);
     print!("{text}");
     let page = Path::new(env!("CARGO_MANIFEST_DIR")).join("../docs/BENCHMARKS.md");
     std::fs::write(page, text)

@@ -155,43 +155,57 @@ fn compare_faulty_groups(library: &mut Library, plain: &mut PlainRust, input: &I
 }
 
 fn time(library: &mut Library, plain: &mut PlainRust, timed: Timed, input: &Input) -> Times {
-    let library_calls = calls_in_a_round(library, timed, input);
-    let plain_calls = calls_in_a_round(plain, timed, input);
-    let mut times = Times {
+    let (call, file) = (timed.call, input.file(timed.links));
+    let [library, plain] = least_times([
+        &mut || {
+            opaque(library.call(opaque(call), opaque(file), input));
+        },
+        &mut || {
+            opaque(plain.call(opaque(call), opaque(file), input));
+        },
+    ]);
+    Times {
         timed,
-        library: f64::INFINITY,
-        plain: f64::INFINITY,
-    };
-    for _ in 0..ROUNDS {
-        let library_time = time_of(library, timed, input, library_calls);
-        times.library = times.library.min(library_time);
-        let plain_time = time_of(plain, timed, input, plain_calls);
-        times.plain = times.plain.min(plain_time);
+        library,
+        plain,
     }
-    times
+}
+
+/// The least time of one call of each side, in microseconds, the sides timed turn by turn.
+pub fn least_times<const K: usize>(mut sides: [&mut dyn FnMut(); K]) -> [f64; K] {
+    let in_a_round: Vec<u32> = sides
+        .iter_mut()
+        .map(|call| calls_in_a_round(call))
+        .collect();
+    let mut least = [f64::INFINITY; K];
+    for _ in 0..ROUNDS {
+        for ((least, call), &calls) in least.iter_mut().zip(&mut sides).zip(&in_a_round) {
+            *least = least.min(time_of(call, calls));
+        }
+    }
+    least
 }
 
 /// The same value, of which the compiler knows nothing: `std::hint::black_box` is newer than the compiler that this package asks for.
-fn opaque<T: Copy>(value: T) -> T {
+pub fn opaque<T: Copy>(value: T) -> T {
     // The value is read from a reference to it, and has no drop of its own.
     unsafe { std::ptr::read_volatile(&value) }
 }
 
 /// How many calls fill a round.
-fn calls_in_a_round(side: &mut impl Side, timed: Timed, input: &Input) -> u32 {
+fn calls_in_a_round(call: &mut dyn FnMut()) -> u32 {
     let mut calls = 1;
-    while time_of(side, timed, input, calls) * f64::from(calls) < ROUND.as_secs_f64() * 1e6 {
+    while time_of(call, calls) * f64::from(calls) < ROUND.as_secs_f64() * 1e6 {
         calls *= 2;
     }
     calls
 }
 
 /// The time of one call, in microseconds, over as many calls as are asked for.
-fn time_of(side: &mut impl Side, timed: Timed, input: &Input, calls: u32) -> f64 {
-    let file = input.file(timed.links);
+fn time_of(call: &mut dyn FnMut(), calls: u32) -> f64 {
     let start = Instant::now();
     for _ in 0..calls {
-        opaque(side.call(opaque(timed.call), opaque(file), input));
+        call();
     }
     start.elapsed().as_secs_f64() * 1e6 / f64::from(calls)
 }

@@ -2,11 +2,13 @@
 //! kept from call to call, so that no call allocates once the largest network was seen.
 mod chunks;
 mod drops;
+mod journal;
 mod network;
 mod peel;
 
 use chunks::chunks_mut;
 use drops::Drops;
+pub use journal::{Links, States};
 use network::{
     counted, fill_out_starts, fill_starts, next_place, source, target, Link, Network, Sorter,
     HEADER_LENGTH,

@@ -1,4 +1,5 @@
 //! The text of the measurements.
+use crate::follow::Followed;
 use crate::inputs::Links;
 use crate::measure::{Halved, Measured, Times, ROUND, ROUNDS};
 use crate::sides::{Call, Timed};
@@ -35,13 +36,23 @@ const GOALS: [Goal; 11] = [
     goal(Call::Check, false, 1.5),
 ];
 
+/// The same for the journals.
+const JOURNAL_MOST: f64 = 1.2;
+
 /// Whatever is measured, for the screen and for docs/BENCHMARKS.md.
-pub fn report(shapes: &[Measured], halves: &[Halved], growth: &[Measured]) -> String {
+pub fn report(
+    shapes: &[Measured],
+    halves: &[Halved],
+    growth: &[Measured],
+    journals: &[Followed],
+) -> String {
+    let goals = goal_table(shapes, halves, growth) + &journal_goal(journals);
     let parts = [
-        ("Goals", goal_table(shapes, halves, growth)),
+        ("Goals", goals),
         ("Times", time_table(shapes)),
         ("Half of the members", half_table(halves)),
         ("Links in any order", order_table(shapes)),
+        ("Journals", journal_table(journals)),
         ("Growth", growth_tables(growth)),
     ];
     let how = how_measured();
@@ -62,7 +73,8 @@ fn how_measured() -> String {
 - Compiler of the plain Rust: {compiler}, opt-level 3
 
 Before the calls on a network are timed, both sides must give the same answers, the same tables, and the same refusals of damaged files
-and of a faulty A or B.
+and of a faulty A or B; before a journal is, the same after none, some and all of its entries, and the same refusals of damaged ones and of
+short tables.
 Then each call is timed, the two sides turn by turn, in {ROUNDS} rounds of at least {round} ms for each side. The least time of one
 call counts, in microseconds. The ratio is the library's time divided by that of plain Rust.
 
@@ -73,7 +85,9 @@ row, and begin a climb with the side that rises. Both ask first whether everyone
 one pass and search among these; for the layers plain Rust takes those that have a layer from the list, and searches the others anew for
 each layer. For the harmonic measure both find the next place to drop by a tree of matches over the places, in which a place whose
 degree fell plays only up to the first match that it loses; plain Rust has the leaves of the tree in a table too, and stops dropping
-where no link is left.
+where no link is left. For a journal plain Rust has the links present in a sorted vector, each as a number of 32 bits that orders them, and
+so each named state. It finds a link by binary search, moves what lies behind it in one piece, and copies a state in one piece, all in
+memory that is kept from call to call.
 Everyone is in A and B, but for the table of half of the members. Links ascend, unless it is said that they stand in random order.
 "
     )
@@ -86,25 +100,32 @@ fn goal_table(shapes: &[Measured], halves: &[Halved], growth: &[Measured]) -> St
     for goal in GOALS {
         let halves = halves.iter().map(|halved| &halved.half);
         let measured = shapes.iter().chain(halves).chain(growth);
-        let mut ratios: Vec<_> = measured.flat_map(|one| ratios(one, &goal)).collect();
-        ratios.sort_by(|a, b| b.0.total_cmp(&a.0));
-        let (greatest, on) = &ratios[0];
-        let most = goal.most;
-        let above = ratios.iter().filter(|(ratio, _)| *ratio > most).count();
-        let all = ratios.len();
+        let ratios = measured.flat_map(|one| ratios(one, &goal)).collect();
         let call = match goal.in_order {
             true => goal.call.name().to_string(),
             false => format!("{}, links in any order", goal.call.name()),
         };
-        let met = if above == 0 { "yes" } else { "no" };
-        add(
-            &mut text,
-            &format!(
-                "| {call} | at most {most} | {greatest:.2} | {on} | {above} of {all} | {met} |"
-            ),
-        );
+        add(&mut text, &goal_line(&call, goal.most, ratios));
     }
     text
+}
+
+fn journal_goal(journals: &[Followed]) -> String {
+    let with_goal = journals.iter().filter(|one| one.journal.has_goal);
+    let ratios = with_goal
+        .map(|one| (one.ratio(), one.journal.name.to_string()))
+        .collect();
+    goal_line("journal", JOURNAL_MOST, ratios) + "\n"
+}
+
+/// How a call keeps to the ratio that is its goal, by all ratios measured and what they were measured on.
+fn goal_line(call: &str, most: f64, mut ratios: Vec<(f64, String)>) -> String {
+    ratios.sort_by(|a, b| b.0.total_cmp(&a.0));
+    let (greatest, on) = &ratios[0];
+    let above = ratios.iter().filter(|(ratio, _)| *ratio > most).count();
+    let all = ratios.len();
+    let met = if above == 0 { "yes" } else { "no" };
+    format!("| {call} | at most {most} | {greatest:.2} | {on} | {above} of {all} | {met} |")
 }
 
 /// The ratios of a goal's call on the files of a network, and what these are called.
@@ -180,6 +201,30 @@ fn order_table(measured: &[Measured]) -> String {
                 );
             }
         }
+    }
+    text
+}
+
+/// The journals, with a set of another kind beside the two sides.
+fn journal_table(journals: &[Followed]) -> String {
+    let mut text = "Each journal first adds 8,192 links of 2,048 members, in random order, and sets the four named states: 8,196 of its entries. The others are
+what it is called by. One in twenty of the additions and withdrawals is drawn to be refused; one in a hundred sets a named state or returns to
+one, where these are among them. One in ten of the sets and returns is an addition or a withdrawal. Where the first link is withdrawn and
+added again, all others move each time. Where all entries but the first ones are drawn to be refused, little but the search is timed: this
+journal has no goal. Beside the two sides stands plain Rust over a BTreeSet, whose copies are allocated.
+
+| Journal | Entries | Refused | Library (µs) | Plain Rust (µs) | Ratio | With a BTreeSet (µs) |
+|---|---|---|---|---|---|---|
+".to_string();
+    for one in journals {
+        let (name, entries, refused) = (one.journal.name, one.journal.entries(), one.refused);
+        let (library, plain, ratio, tree) = (one.library, one.plain, one.ratio(), one.tree);
+        add(
+            &mut text,
+            &format!(
+                "| {name} | {entries} | {refused} | {library:.1} | {plain:.1} | {ratio:.2} | {tree:.1} |"
+            ),
+        );
     }
     text
 }

@@ -1,5 +1,5 @@
--- P1 to P9, a ring beside a star, both also inside A and B, the harmonic finder, zero bytes, the limits of a file and
--- links that do not ascend: every case of the table holds.
+-- P1 to P9, a ring beside a star, both also inside A and B, the harmonic finder, zero bytes, the limits of a file,
+-- links that do not ascend and journals: every case of the table holds; and 5 for an entry, by its law.
 use mathlib.Core.Path.{refl}
 use Rattle.graph.specs.Range.{sum, first, flat}
 use Rattle.graph.specs.Order.{rank_by, nth_by}
@@ -7,10 +7,14 @@ use Rattle.graph.specs.Core.{apart}
 use Rattle.graph.specs.Places.{links_to}
 use Rattle.graph.specs.Harmonic.{unbeaten}
 use Rattle.network.specs.File.{old_refusal, file_refusal}
+use Rattle.journal.specs.Entries.{header_refusal, entry_at}
+use Rattle.journal.specs.Journal.{live, number, after}
+use Rattle.journal.proofs.Numbers.{add-full}
+use Rattle.cases.specs.Journals.{FullNumber}
 use Rattle.cases.specs.Cases.{cases, Hold}
 use Rattle.cases.proofs.Compute.{all_sound}
 
--- by computing the test of the table
-pub cases-hold : Hold cases
-unfolding cases sum first flat apart links_to unbeaten rank_by nth_by old_refusal file_refusal
-cases-hold = all_sound cases refl
+-- by computing the test of the table, and by the law
+pub cases-hold : Hold cases × FullNumber
+unfolding cases sum first flat apart links_to unbeaten rank_by nth_by old_refusal file_refusal header_refusal entry_at live number after
+cases-hold = (all_sound cases refl, λ n s u v l m. add-full n s u v l m)

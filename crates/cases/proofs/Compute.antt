@@ -27,7 +27,9 @@ use Rattle.graph.proofs.Layers.{layer-make, layer-product}
 use Rattle.network.specs.declared.Refusal.{Refusal}
 use Rattle.network.specs.File.{graph_of, none, old_refusal, file_refusal}
 use Rattle.network.specs.Bytes.{written}
-use Rattle.cases.specs.Cases.{members, Ring, Counts, Claim, core, level, across, finding, layers, harmonic, has, gives, orders, Rings, Says, Case, Hold}
+use Rattle.journal.specs.Entries.{header_refusal}
+use Rattle.cases.specs.Journals.{numbers_after, pairs_after, SaysJournal}
+use Rattle.cases.specs.Cases.{members, Ring, Counts, Claim, core, level, across, finding, layers, harmonic, has, gives, orders, follows, heads, Rings, Says, Case, Hold}
 use Rattle.cases.proofs.Sweep.{with_out, with_in, sources_left, targets_left, covers-sweep}
 use Rattle.cases.proofs.Drops.{drops, found_of, places-found}
 
@@ -341,6 +343,22 @@ is_accepted f = is_refusal (file_refusal f) none && is_closed (graph_of f)
 accepted-sound : (f : List ℕ) → is_accepted f ≡ true → (file_refusal f ≡ none) × Closed (graph_of f)
 accepted-sound f h = let (p, q) = both (is_refusal (file_refusal f) none) _ h in (refusal-sound (file_refusal f) none p, closed-sound (graph_of f) q)
 
+-- the journal is not refused, and of its entries followed the numbers and the links present after them are the listed ones
+abbrev pub is_journal : List ℕ → ℕ → List ℕ → List ℕ → Bool
+is_journal j asked numbers present =
+    is_refusal (header_refusal j) none && (are_equal (numbers_after j asked) numbers && are_equal (pairs_after j asked) present)
+
+-- by the definitions
+journal-sound : (j : List ℕ) (asked : ℕ) (numbers present : List ℕ) → is_journal j asked numbers present ≡ true → SaysJournal j asked numbers present
+journal-sound j asked numbers present h =
+    let (p, r) = both (is_refusal (header_refusal j) none) _ h in
+    let (q, t) = both (are_equal (numbers_after j asked) numbers) _ r in
+    record {
+      header = refusal-sound (header_refusal j) none p;
+      numbers = equal-sound (numbers_after j asked) numbers q;
+      present = equal-sound (pairs_after j asked) present t;
+    }
+
 -- the test of a claim on a file inside A and B
 abbrev pub holds : List ℕ → Group → Group → Claim → Bool
 holds f A B (core x y S T E) = is_accepted f && (is_core (graph_of f) A B x y (members S) (members T) && is_counts (graph_of f) S T E)
@@ -355,6 +373,8 @@ holds f A B (harmonic S T E) = is_accepted f && (is_harmonic (graph_of f) (membe
 holds f A B (has n m) = is_refusal (file_refusal f) none && (eqb (graph_of f).order n && eqb (graph_of f).size m)
 holds f A B (gives r) = is_refusal (file_refusal f) r
 holds f A B (orders w) = is_refusal (old_refusal f) none && (are_equal (written (graph_of f)) w && is_refusal (file_refusal w) none)
+holds f A B (follows asked numbers present) = is_journal f asked numbers present
+holds f A B (heads r) = is_refusal (header_refusal f) r
 
 -- a claim that passes its test holds
 holds-sound : (f : List ℕ) (A B : Group) (c : Claim) → holds f A B c ≡ true → Says f A B c
@@ -401,6 +421,8 @@ holds-sound f A B (orders w) h =
     let (a, r) = both (is_refusal (old_refusal f) none) _ h in
     let (p, q) = both (are_equal (written (graph_of f)) w) _ r in
     (refusal-sound (old_refusal f) none a, equal-sound (written (graph_of f)) w p, refusal-sound (file_refusal w) none q)
+holds-sound f A B (follows asked numbers present) h = journal-sound f asked numbers present h
+holds-sound f A B (heads r) h = refusal-sound (header_refusal f) r h
 
 -- the test of every case of a table
 abbrev pub all_hold : List Case → Bool

@@ -1,5 +1,5 @@
 -- 01's "Networks to try" and 02's examples as one table: each network as the bytes of its file, two groups A and B, and what is said of it
--- inside them, by the definitions.
+-- inside them, by the definitions; and journals, as their bytes.
 use Rattle.std.specs.Prelude.{ℕ, suc, false, ◌||◌, List, [], ◌∷◌, ◌++◌, ◌≡◌, eqb, length, get_or, take}
 use Rattle.graph.specs.Graph.{Graph, Group, everyone, card, edges}
 use Rattle.graph.specs.Core.{CoreInside, LevelInside, LevelAcrossInside, EqualLevelInside, FindingInside}
@@ -7,8 +7,10 @@ use Rattle.graph.specs.Quiet.{OutcomeInside}
 use Rattle.graph.specs.Layers.{still_in, LayeringInside}
 use Rattle.graph.specs.Harmonic.{Harmonic}
 use Rattle.network.specs.declared.Refusal.{Refusal}
-use Rattle.network.specs.File.{graph_of, none, plain, at, old_refusal, file_refusal}
-use Rattle.network.specs.Bytes.{header, edge_bytes, written}
+use Rattle.network.specs.File.{mark, graph_of, none, plain, at, old_refusal, file_refusal}
+use Rattle.network.specs.Bytes.{u16, header, edge_bytes, written}
+use Rattle.journal.specs.Entries.{journal_mark, header_refusal}
+use Rattle.cases.specs.Journals.{journal_header, entry, SaysJournal}
 
 -- the group of the listed members
 abbrev pub members : List ℕ → Group
@@ -43,6 +45,11 @@ pub data Claim : Type 0 where
   gives : Refusal → Claim
   -- by the old rule the file is accepted, and its links in order are this file, which is accepted
   orders : List ℕ → Claim
+  -- the bytes are a journal that is not refused; of its entries the first `asked` are followed, or all where there are fewer: these have the
+  -- listed numbers, and the links present after them are the listed ones, 1 or 0 for each pair of members
+  follows : (asked : ℕ) (numbers present : List ℕ) → Claim
+  -- the journal's header gives this refusal, or none
+  heads : Refusal → Claim
 
 -- the counts between the listed groups: E links, and no member listed twice or beyond the network
 pub record Counts (g : Graph) (S T : List ℕ) (E : ℕ) : Type 0 where
@@ -82,7 +89,7 @@ pub record SaysHarmonic (f : List ℕ) (S T : List ℕ) (E : ℕ) : Type 0 where
   pub found : Harmonic (graph_of f) (members S) (members T)
   pub counts : Counts (graph_of f) S T E
 
--- a claim on a file inside A and B, by the definitions; A and B do not count for the harmonic finder, nor for what is said of the file's bytes
+-- a claim on a file inside A and B, by the definitions; A and B do not count for the harmonic finder, nor for the bytes of a file or a journal
 abbrev pub Says : List ℕ → Group → Group → Claim → Type 0
 Says f A B (core x y S T E) = SaysCore f A B x y S T E
 Says f A B (level x y) = (file_refusal f ≡ none) × LevelInside (graph_of f) A B x y
@@ -93,8 +100,10 @@ Says f A B (harmonic S T E) = SaysHarmonic f S T E
 Says f A B (has n m) = (file_refusal f ≡ none) × ((graph_of f).order ≡ n) × ((graph_of f).size ≡ m)
 Says f A B (gives r) = file_refusal f ≡ r
 Says f A B (orders w) = (old_refusal f ≡ none) × (written (graph_of f) ≡ w) × (file_refusal w ≡ none)
+Says f A B (follows asked numbers present) = SaysJournal f asked numbers present
+Says f A B (heads r) = header_refusal f ≡ r
 
--- a file, the groups A and B, and one claim on it inside them
+-- a file or a journal, the groups A and B, and one claim on it inside them
 pub record Case : Type 0 where
   pub file : List ℕ
   pub sources : Group
@@ -117,6 +126,40 @@ star_and_ring = header 9 8 ++ edge_bytes 0 4 ++ edge_bytes 1 4 ++ edge_bytes 2 4
 abbrev pub one_offs : List ℕ
 one_offs = header 8 9 ++ edge_bytes 1 0 ++ edge_bytes 2 0 ++ edge_bytes 3 0 ++ edge_bytes 4 0 ++ edge_bytes 5 0 ++ edge_bytes 6 1 ++ edge_bytes 6 2 ++ edge_bytes 7 1 ++ edge_bytes 7 2
 
+-- a month over 2 members, which meets each number but 5
+abbrev pub month : List ℕ
+month =
+    journal_header 2
+    -- 0 vouches for 1; again (16); 1 withdraws an absent link (17); a member outside (10)
+    ++ entry 0 0 1
+    ++ entry 0 0 1
+    ++ entry 1 1 1
+    ++ entry 0 2 0
+    -- name 0 is set; a return to a name never set (18); 0 withdraws the link; a return to 0
+    ++ entry 2 0 0
+    ++ entry 3 3 0
+    ++ entry 1 0 1
+    ++ entry 3 0 0
+    -- 1 vouches for 0; name 3 is set; returns to 0, 3 and 0
+    ++ entry 0 1 0
+    ++ entry 2 3 0
+    ++ entry 3 0 0
+    ++ entry 3 3 0
+    ++ entry 3 0 0
+    -- 1 vouches for 1; name 0 is set again; returns to 3 and 0
+    ++ entry 0 1 1
+    ++ entry 2 0 0
+    ++ entry 3 3 0
+    ++ entry 3 0 0
+    -- a name above 3, a last number that is not 0, and a kind above 3 (18)
+    ++ entry 2 4 0
+    ++ entry 3 0 1
+    ++ entry 4 0 0
+
+-- the numbers of its entries
+abbrev pub month_numbers : List ℕ
+month_numbers = 0 ∷ 16 ∷ 17 ∷ 10 ∷ 0 ∷ 18 ∷ 0 ∷ 0 ∷ 0 ∷ 0 ∷ 0 ∷ 0 ∷ 0 ∷ 0 ∷ 0 ∷ 0 ∷ 0 ∷ 18 ∷ 18 ∷ 18 ∷ []
+
 -- one case of the table, among everyone
 abbrev pub says : List ℕ → Claim → Case
 says f c = record { file = f; sources = everyone; targets = everyone; claim = c }
@@ -125,8 +168,8 @@ says f c = record { file = f; sources = everyone; targets = everyone; claim = c 
 abbrev pub says_in : List ℕ → List ℕ → List ℕ → Claim → Case
 says_in f A B c = record { file = f; sources = members A; targets = members B; claim = c }
 
--- P1 to P9, W's report and W's layers, 02's example, some of these inside A and B, the harmonic finder, zero bytes, the limits of a file, then links that
--- do not ascend
+-- P1 to P9, W's report and W's layers, 02's example, some of these inside A and B, the harmonic finder, zero bytes, the limits of a file, links that
+-- do not ascend, then journals
 unfoldable pub cases : List Case
 cases =
     -- P1
@@ -229,6 +272,40 @@ cases =
     -- by the old rule they are taken, and in order they are W; zero bytes are taken too
     ∷ says mixed_w (orders W)
     ∷ says [] (orders (header 0 0))
+    -- a month (02, wish 8): it starts without links; the first is withdrawn, and is back after a return
+    ∷ says month (follows 0 [] (0 ∷ 0 ∷ 0 ∷ 0 ∷ []))
+    ∷ says month (follows 6 (take 6 month_numbers) (0 ∷ 1 ∷ 0 ∷ 0 ∷ []))
+    ∷ says month (follows 7 (take 7 month_numbers) (0 ∷ 0 ∷ 0 ∷ 0 ∷ []))
+    ∷ says month (follows 8 (take 8 month_numbers) (0 ∷ 1 ∷ 0 ∷ 0 ∷ []))
+    -- of two named states each holds, however often it is returned to
+    ∷ says month (follows 10 (take 10 month_numbers) (0 ∷ 1 ∷ 1 ∷ 0 ∷ []))
+    ∷ says month (follows 11 (take 11 month_numbers) (0 ∷ 1 ∷ 0 ∷ 0 ∷ []))
+    ∷ says month (follows 12 (take 12 month_numbers) (0 ∷ 1 ∷ 1 ∷ 0 ∷ []))
+    ∷ says month (follows 13 (take 13 month_numbers) (0 ∷ 1 ∷ 0 ∷ 0 ∷ []))
+    -- until it is set again
+    ∷ says month (follows 15 (take 15 month_numbers) (0 ∷ 1 ∷ 0 ∷ 1 ∷ []))
+    ∷ says month (follows 16 (take 16 month_numbers) (0 ∷ 1 ∷ 1 ∷ 0 ∷ []))
+    ∷ says month (follows 17 (take 17 month_numbers) (0 ∷ 1 ∷ 0 ∷ 1 ∷ []))
+    -- more entries than there are means all
+    ∷ says month (follows 100 month_numbers (0 ∷ 1 ∷ 0 ∷ 1 ∷ []))
+    -- a withdrawn link that is absent, with either member outside, gives 10, not 17
+    ∷ says (journal_header 2 ++ entry 1 0 2 ++ entry 1 2 0) (follows 2 (10 ∷ 10 ∷ []) (0 ∷ 0 ∷ 0 ∷ 0 ∷ []))
+    -- kind 2 with a name above 3, and numbers outside too, gives 18, not 10
+    ∷ says (journal_header 2 ++ entry 2 4 2) (follows 1 (18 ∷ []) (0 ∷ 0 ∷ 0 ∷ 0 ∷ []))
+    -- both bytes of a number count
+    ∷ says (journal_header 2 ++ entry 0 256 0 ++ entry 0 0 256 ++ entry 2 256 0) (follows 3 (10 ∷ 10 ∷ 18 ∷ []) (0 ∷ 0 ∷ 0 ∷ 0 ∷ []))
+    -- a journal's header: under 7 bytes, of which zero bytes too
+    ∷ says [] (heads (plain 1))
+    ∷ says (take 6 (journal_header 2)) (heads (plain 1))
+    -- a file's mark, whatever n, and another version
+    ∷ says (mark ++ u16 1 ++ u16 2) (heads (plain 2))
+    ∷ says (mark ++ u16 1 ++ u16 2049) (heads (plain 2))
+    ∷ says (journal_mark ++ u16 2 ++ u16 2) (heads (plain 3))
+    -- n: 2,048 is accepted, 2,049 is not
+    ∷ says (journal_header 2048) (heads none)
+    ∷ says (journal_header 2049) (heads (plain 4))
+    -- an entry that is cut short
+    ∷ says (journal_header 2 ++ u16 0) (heads (plain 6))
     ∷ []
 
 -- every case's claim holds

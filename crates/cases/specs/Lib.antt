@@ -1,1 +1,2 @@
+pub mod Journals
 pub mod Cases

@@ -9,6 +9,7 @@ use Rattle.adjacency.specs.declared.IndexAnswer as index
 use Rattle.cores.specs.declared.LevelAnswer as level
 use Rattle.finding.specs.declared.FindingAnswer as finding
 use Rattle.layering.specs.declared.LayersAnswer as layers
+use Rattle.journal.specs.declared.JournalAnswer as journal
 use Rattle.network.specs.File.{none}
 use Rattle.network.specs.Refusals.{row_refusal}
 use Rattle.cogsplice_c.specs.declared.CheckNumbers.{CheckNumbers}
@@ -40,6 +41,11 @@ totals_numbers (totals.TheVariants.Refused r) = record { refusal = r.number; lin
 abbrev pub write_numbers : write.WriteAnswer → WriteNumbers
 write_numbers (write.TheVariants.Written m) = record { refusal = 0; link = 0; m = m }
 write_numbers (write.TheVariants.Refused r) = record { refusal = r.number; link = r.link; m = 0 }
+
+-- of the journal, which writes a file too,
+abbrev pub journal_numbers : journal.JournalAnswer → WriteNumbers
+journal_numbers (journal.TheVariants.Written m) = record { refusal = 0; link = 0; m = m }
+journal_numbers (journal.TheVariants.Refused r) = record { refusal = r.number; link = r.link; m = 0 }
 
 -- of the index,
 abbrev pub index_numbers : index.IndexAnswer → IndexNumbers

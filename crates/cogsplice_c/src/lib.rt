@@ -13,11 +13,12 @@ ghost use Rattle.cores.specs.Calls.{CoreCall, LevelCall, LevelAcrossCall, EqualL
 ghost use Rattle.finding.specs.Findings.{FindingCall};
 ghost use Rattle.layering.specs.Calls.{LayersCall};
 ghost use Rattle.harmonic.specs.Calls.{HarmonicCall};
-ghost use Rattle.cogsplice_c.specs.Told.{Told, PartOf, side_of, check_numbers, totals_numbers, write_numbers, index_numbers, level_numbers, finding_numbers, layers_numbers};
+ghost use Rattle.journal.specs.Calls.{JournalCall};
+ghost use Rattle.cogsplice_c.specs.Told.{Told, PartOf, side_of, check_numbers, totals_numbers, write_numbers, journal_numbers, index_numbers, level_numbers, finding_numbers, layers_numbers};
 
 use crate::numbers::{
-    check_numbers, finding_numbers, index_numbers, layers_numbers, level_numbers, totals_numbers,
-    write_numbers,
+    check_numbers, finding_numbers, index_numbers, journal_numbers, layers_numbers, level_numbers,
+    totals_numbers, write_numbers,
 };
 use crate::rows::part_of;
 use cogsplice::Side;
@@ -43,7 +44,7 @@ pub struct TotalsNumbers {
     pub targets: usize,
 }
 
-// The numbers of the calls that write a file: m.
+// The numbers of the calls that write a file, the journal too: m.
 #[repr(C)]
 #[derive(Clone, Copy)]
 pub struct WriteNumbers {
@@ -292,6 +293,19 @@ pub extern "C" fn cogsplice_harmonic(
     ensures { Told (HarmonicCall file.now s.old s.new t.old t.new work.old work.new) totals_numbers result }
 {
     totals_numbers(cogsplice::harmonic(file, s, t, work))
+}
+
+#[unsafe(no_mangle)]
+pub extern "C" fn cogsplice_journal(
+    journal: &[u8],
+    asked: usize,
+    out: &mut [u8],
+    numbers: &mut [u8],
+    work: &mut [u16],
+) -> WriteNumbers
+    ensures { Told (JournalCall journal.now asked out.old out.new numbers.old numbers.new work.old work.new) journal_numbers result }
+{
+    journal_numbers(cogsplice::journal(journal, asked, out, numbers, work))
 }
 
 #[unsafe(no_mangle)]

@@ -1,13 +1,14 @@
 // 01's numbers of each answer.
 ghost use Rattle.std.specs.Prelude.{◌≡◌};
-ghost use Rattle.cogsplice_c.specs.Told.{check_numbers, totals_numbers, write_numbers, index_numbers, level_numbers, finding_numbers, layers_numbers};
+ghost use Rattle.cogsplice_c.specs.Told.{check_numbers, totals_numbers, write_numbers, journal_numbers, index_numbers, level_numbers, finding_numbers, layers_numbers};
 
 use crate::{
     CheckNumbers, FindingNumbers, IndexNumbers, LayersNumbers, LevelNumbers, TotalsNumbers,
     WriteNumbers,
 };
 use cogsplice::{
-    CheckAnswer, FindingAnswer, IndexAnswer, LayersAnswer, LevelAnswer, TotalsAnswer, WriteAnswer,
+    CheckAnswer, FindingAnswer, IndexAnswer, JournalAnswer, LayersAnswer, LevelAnswer,
+    TotalsAnswer, WriteAnswer,
 };
 
 pub fn check_numbers(answer: CheckAnswer) -> CheckNumbers
@@ -60,6 +61,23 @@ pub fn write_numbers(answer: WriteAnswer) -> WriteNumbers
             m: size,
         },
         WriteAnswer::Refused(refusal) => WriteNumbers {
+            refusal: refusal.number,
+            link: refusal.link,
+            m: 0,
+        },
+    }
+}
+
+pub fn journal_numbers(answer: JournalAnswer) -> WriteNumbers
+    ensures { result ≡ journal_numbers answer }
+{
+    match answer {
+        JournalAnswer::Written { size } => WriteNumbers {
+            refusal: 0,
+            link: 0,
+            m: size,
+        },
+        JournalAnswer::Refused(refusal) => WriteNumbers {
             refusal: refusal.number,
             link: refusal.link,
             m: 0,

@@ -2,7 +2,7 @@
 //!
 //! Every call is safe on slices of any length and content: none has a precondition. `refusal` is 0 where a call was accepted; of a
 //! refused call every other number is 0 but for `link`, and no table has changed. What lies past the entries that a call needs stays
-//! unchanged. Zero bytes count as the file without members and links.
+//! unchanged. Zero bytes count as the file without members and links; they are no journal.
 //!
 //! `a` and `b` are the groups A and B that a call searches inside: one byte for each member, 1 in, 0 out. S lies in A and T in B, and so
 //! does every pair that the call speaks of. With everyone in both the whole network is searched.
@@ -138,6 +138,10 @@ extern "C" {
         s: *mut u8, s_length: usize, t: *mut u8, t_length: usize, work: *mut u16, work_length: usize,
     ) -> TotalsNumbers;
     fn cogsplice_equal_findings(x: usize, y: usize, a: usize, b: usize) -> bool;
+    fn cogsplice_journal(
+        journal: *const u8, journal_length: usize, asked: usize,
+        out: *mut u8, out_length: usize, numbers: *mut u8, numbers_length: usize, work: *mut u16, work_length: usize,
+    ) -> WriteNumbers;
 }
 
 // In each call below the pointers and lengths are those of slices, and what the call writes is borrowed mutably, so that it
@@ -282,4 +286,18 @@ pub fn harmonic(file: &[u8], s: &mut [u8], t: &mut [u8], work: &mut [u16]) -> To
 /// Whether two findings are equal: `x` and `y` of one, `a` and `b` of the other.
 pub fn equal_findings(x: usize, y: usize, a: usize, b: usize) -> bool {
     unsafe { cogsplice_equal_findings(x, y, a, b) }
+}
+
+/// Follows the first `asked` entries of a journal, all where there are fewer. Writes the file of the links then present, ascending by
+/// voucher, then vouched, to `out`, and to `numbers` one byte for each entry followed: 0 where it did what it says, else the number that
+/// refuses it, 18, 10, 16, 17 or 5. `out` needs [`JOURNAL_OUT`](crate::JOURNAL_OUT) bytes, `work`
+/// [`JOURNAL_WORK`](crate::JOURNAL_WORK) entries.
+#[rustfmt::skip]
+pub fn journal(journal: &[u8], asked: usize, out: &mut [u8], numbers: &mut [u8], work: &mut [u16]) -> WriteNumbers {
+    unsafe {
+        cogsplice_journal(
+            journal.as_ptr(), journal.len(), asked,
+            out.as_mut_ptr(), out.len(), numbers.as_mut_ptr(), numbers.len(), work.as_mut_ptr(), work.len(),
+        )
+    }
 }

@@ -2,9 +2,10 @@
 //!
 //! A [`Network`] holds an accepted network file, whose links ascend; [`Network::read_old`] takes stored files with links in any order too.
 //! Its calls own the tables that the library works on, and answer with groups as vectors of members, or with a typed [`Refusal`].
-//! [`Network::within`] has cores, levels, the finding and the layers among some members only. That the answers are right is proved in the
-//! library itself, which is linked as a static library; this crate only hands numbers and tables across. [`lent`] has the calls as they
-//! are, over tables of the caller's.
+//! [`Network::within`] has cores, levels, the finding and the layers among some members only. A [`Journal`] is a month entry by entry, and
+//! gives the network after so many of them: so it is seen when a ring formed. That the answers are right is proved in the library itself,
+//! which is linked as a static library; this crate only hands numbers and tables across. [`lent`] has the calls as they are, over tables of
+//! the caller's.
 //!
 //! ```
 //! use cogsplice::Network;
@@ -22,15 +23,17 @@
 //! # Ok(())
 //! # }
 //! ```
+mod journal;
 mod layers;
 pub mod lent;
 mod network;
 mod refusal;
 mod within;
 
+pub use journal::{After, Journal, Name};
 pub use layers::Layers;
 pub use network::{Finding, Index, Network, Pair, Totals};
-pub use refusal::Refusal;
+pub use refusal::{EntryRefusal, Refusal};
 pub use within::Within;
 
 /// A side of a link.
@@ -57,3 +60,14 @@ pub const fn file_length(m: usize) -> usize {
 pub const fn work_length(n: usize, m: usize) -> usize {
     2 * m + 6 * n + 2
 }
+
+/// The length in bytes of a journal of `k` entries.
+pub const fn journal_length(k: usize) -> usize {
+    7 + 5 * k
+}
+
+/// The length in bytes of the output of a journal, whatever its entries.
+pub const JOURNAL_OUT: usize = file_length(LINKS);
+
+/// The length of the work table for a journal.
+pub const JOURNAL_WORK: usize = 81_920;

@@ -413,8 +413,8 @@ impl Network {
     }
 }
 
-/// A number of the file. What 16 bits do not hold becomes the largest number, which the check refuses as it would the number itself.
-fn number(value: usize) -> [u8; 2] {
+/// A number of a file or of a journal. What 16 bits do not hold becomes the largest number, which is refused as the number itself would be.
+pub(crate) fn number(value: usize) -> [u8; 2] {
     u16::try_from(value).unwrap_or(u16::MAX).to_le_bytes()
 }
 

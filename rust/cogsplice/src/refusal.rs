@@ -15,9 +15,9 @@ use std::fmt;
 /// ```
 #[derive(Clone, Copy, Debug, PartialEq, Eq)]
 pub enum Refusal {
-    /// 1: the file has 1 to 8 bytes.
+    /// 1: the file has 1 to 8 bytes; a journal has under 7.
     Short,
-    /// 2: its mark is not `VCH`.
+    /// 2: its mark is not `VCH`; a journal's is not `VJN`.
     Mark,
     /// 3: its version is not 1.
     Version,
@@ -25,7 +25,7 @@ pub enum Refusal {
     Members,
     /// 5: m is above 8,192.
     Links,
-    /// 6: its length is not 9 + 4 × m.
+    /// 6: its length is not 9 + 4 × m; a journal's is 7 + 5 × k for no k.
     Length,
     /// 7: a link names a member not below n; the first such link.
     End { link: usize },
@@ -67,12 +67,12 @@ impl Refusal {
     /// The refusal's number, the link that it names, and its words.
     fn told(self) -> (u16, Option<usize>, &'static str) {
         match self {
-            Refusal::Short => (1, None, "the file has 1 to 8 bytes"),
-            Refusal::Mark => (2, None, "the mark is not VCH"),
+            Refusal::Short => (1, None, "the file has 1 to 8 bytes, or the journal under 7"),
+            Refusal::Mark => (2, None, "the mark is not VCH, or of a journal VJN"),
             Refusal::Version => (3, None, "the version is not 1"),
             Refusal::Members => (4, None, "n is above 2048"),
             Refusal::Links => (5, None, "m is above 8192"),
-            Refusal::Length => (6, None, "the length is not 9 + 4 * m"),
+            Refusal::Length => (6, None, "the length is not 9 + 4 * m, or of a journal 7 + 5 * k"),
             Refusal::End { link } => (7, Some(link), "a link names a member not below n"),
             Refusal::Repeat { link } => (8, Some(link), "a link repeats an earlier one"),
             Refusal::Order { link } => (15, Some(link), "a link comes before the one preceding it"),
@@ -112,3 +112,73 @@ impl fmt::Display for Refusal {
 }
 
 impl Error for Refusal {}
+
+/// Why an entry of a journal was refused, and skipped: where more than one number applies the first in the order of the tests, 18, 10, 16,
+/// 17, 5.
+///
+/// ```
+/// use cogsplice::{EntryRefusal, Journal};
+/// let mut journal = Journal::new(2).unwrap();
+/// let refusal = journal.withdraw(0, 1).after_all().refusals[0].unwrap();
+/// assert_eq!(refusal, EntryRefusal::Absent);
+/// assert_eq!(refusal.number(), 17);
+/// assert_eq!(refusal.to_string(), "refused 17");
+/// assert_eq!(refusal.words(), "the link that is withdrawn is absent");
+/// ```
+#[derive(Clone, Copy, Debug, PartialEq, Eq)]
+pub enum EntryRefusal {
+    /// 18: its kind or its name is above 3, its name is not followed by 0, or it returns to a state never set.
+    Entry,
+    /// 10: a member of the link is not below n.
+    Member,
+    /// 16: the link that it adds is present.
+    Present,
+    /// 17: the link that it withdraws is absent.
+    Absent,
+    /// 5: it adds to 8,192 links.
+    Links,
+}
+
+impl EntryRefusal {
+    const ALL: [EntryRefusal; 5] = {
+        use EntryRefusal::*;
+        [Entry, Member, Present, Absent, Links]
+    };
+
+    /// The refusal of an entry's number, where it is one.
+    pub(crate) fn of(number: u8) -> Option<EntryRefusal> {
+        if number == 0 {
+            return None;
+        }
+        let refusal = EntryRefusal::ALL.into_iter().find(|refusal| refusal.number() == number.into());
+        Some(refusal.unwrap_or_else(|| unreachable!("the library has no refusal {number} of an entry")))
+    }
+
+    /// The refusal's number and its words.
+    fn told(self) -> (u16, &'static str) {
+        match self {
+            EntryRefusal::Entry => (18, "the entry is none that a journal has, or returns to a state never set"),
+            EntryRefusal::Member => (10, "a member is not below n"),
+            EntryRefusal::Present => (16, "the link that is added is present"),
+            EntryRefusal::Absent => (17, "the link that is withdrawn is absent"),
+            EntryRefusal::Links => (5, "8192 links are present"),
+        }
+    }
+
+    /// The refusal's number: 5, 10 or 16 to 18.
+    pub fn number(self) -> u16 {
+        self.told().0
+    }
+
+    /// The refusal in words.
+    pub fn words(self) -> &'static str {
+        self.told().1
+    }
+}
+
+/// As a [`Refusal`]'s: `refused` and the number.
+impl fmt::Display for EntryRefusal {
+    fn fmt(&self, f: &mut fmt::Formatter<'_>) -> fmt::Result {
+        write!(f, "refused {}", self.number())
+    }
+}

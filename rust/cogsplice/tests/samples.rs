@@ -1,6 +1,6 @@
-//! Findings, layers, pairs of the harmonic measure and refusals read as they are printed: every sample, against the texts beside it. Old
-//! files are read as the files beside them.
-use cogsplice::Network;
+//! Findings, layers, pairs of the harmonic measure and refusals read as they are printed: every sample, against the texts beside it, and a
+//! journal's findings after some of its entries. Old files are read as the files beside them.
+use cogsplice::{Journal, Network};
 use std::fs;
 use std::path::{Path, PathBuf};
 
@@ -71,4 +71,26 @@ fn the_first_layer_is_the_finding() {
         finding.pair = network.layers().pair(1);
         finding.to_string()
     });
+}
+
+/// The journal in which a ring forms: its findings after some entries, and the entries that are refused.
+#[test]
+fn a_journal_reads_as_it_is_printed() {
+    let beside = |ending: &str| {
+        let file = format!("../../samples/ring-forms{ending}");
+        Path::new(env!("CARGO_MANIFEST_DIR")).join(file)
+    };
+    let journal = Journal::read(fs::read(beside(".vjn")).unwrap()).unwrap();
+    let mut compared = 0;
+    for entries in 0..=journal.len() {
+        if let Ok(text) = fs::read_to_string(beside(&format!("-{entries}.txt"))) {
+            let finding = journal.after(entries).network.finding();
+            assert_eq!(format!("{finding}\n"), text, "after {entries}");
+            compared += 1;
+        }
+    }
+    assert!(compared > 0);
+    let refusals = journal.after_all().refusals.into_iter().enumerate();
+    let refused = refusals.filter_map(|(entry, refusal)| refusal.map(|refusal| format!("entry {entry} {refusal}\n")));
+    assert_eq!(refused.collect::<String>(), fs::read_to_string(beside(".numbers")).unwrap());
 }

@@ -1,8 +1,10 @@
-//! What the tests, the measurements and the samples make networks of: random numbers that are the same on every run, and the bytes of
-//! a file. Nothing here calls the library.
+//! What the tests, the measurements and the samples make networks and journals of: random numbers that are the same on every run, and the
+//! bytes of both. Nothing here calls the library.
 mod draw;
+mod journal;
 
 pub use draw::Draw;
+pub use journal::{add, encode_journal, return_to, set, withdraw, Entry};
 
 /// A link: voucher, then vouched.
 pub type Link = (usize, usize);

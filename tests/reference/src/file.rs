@@ -16,7 +16,7 @@ pub fn file_length(m: usize) -> usize {
 }
 
 /// A number of 16 bits, low byte first.
-fn number_at(file: &[u8], offset: usize) -> usize {
+pub(crate) fn number_at(file: &[u8], offset: usize) -> usize {
     file[offset] as usize + 256 * file[offset + 1] as usize
 }
 

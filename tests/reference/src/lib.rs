@@ -8,6 +8,7 @@ mod file;
 mod groups;
 mod harmonic;
 mod index;
+mod journal;
 mod layers;
 mod report;
 
@@ -17,5 +18,6 @@ pub use file::{check, file_length, order, read, read_any_order, write, LINKS, ME
 pub use groups::count;
 pub use harmonic::harmonic;
 pub use index::{index, row, row_refusal};
+pub use journal::{journal, JOURNAL_OUT, JOURNAL_WORK};
 pub use layers::layers;
 pub use report::{convert, report, INPUT};

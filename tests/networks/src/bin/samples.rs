@@ -1,6 +1,9 @@
-//! Writes the networks of the folder `samples`, and the conversions of those that are not in order, into the folder that is named:
+//! Writes the networks and the journal of the folder `samples`, and the conversions of networks that are not in order, into the folder that
+//! is named:
 //! `cargo run --manifest-path tests/networks/Cargo.toml samples`.
-use networks::{all_links, encode, Draw, Link, Network};
+use networks::{
+    add, all_links, encode, encode_journal, return_to, set, withdraw, Draw, Entry, Link, Network,
+};
 use std::collections::HashSet;
 use std::path::Path;
 use std::{env, fs};
@@ -51,6 +54,33 @@ fn two_rings() -> [Vec<u8>; 2] {
     [in_order(n, links), shuffled]
 }
 
+/// A month in which a ring forms: single vouches, then the ring of 3 vouchers and 3 vouched members, link by link. One of its links is
+/// withdrawn, and the month returns to the ring, and at last to what was before it. Four entries are refused.
+const RING_FORMS: [Entry; 22] = [
+    add((0, 7)),
+    add((3, 1)),
+    add((5, 11)),
+    add((0, 7)),
+    set(0),
+    add((2, 8)),
+    add((4, 8)),
+    add((2, 9)),
+    add((4, 9)),
+    add((6, 8)),
+    add((6, 12)),
+    add((6, 9)),
+    withdraw((3, 1)),
+    withdraw((3, 1)),
+    add((2, 10)),
+    add((4, 10)),
+    add((6, 10)),
+    set(1),
+    withdraw((4, 9)),
+    return_to(1),
+    return_to(2),
+    return_to(0),
+];
+
 /// Network W with links 2 and 3 exchanged.
 fn exchanged() -> Vec<u8> {
     let mut network = Network::w();
@@ -95,4 +125,5 @@ fn main() {
     write("damaged-repeat", &changed(9 + 4 * 3 + 2, 3));
     write("damaged-order", &exchanged());
     write_as("ordered", "damaged-order", &w);
+    write_as("vjn", "ring-forms", &encode_journal(12, &RING_FORMS));
 }

@@ -13,6 +13,8 @@ pub struct Tally {
     pub differences: u64,
     /// For each refusal number, how many answers had it; for 0, how many were accepted.
     pub refusals: [u64; 16],
+    /// For each number of a journal's entry, how many followed entries had it; for 0, how many were accepted.
+    pub entries: [u64; 19],
 }
 
 impl Tally {
@@ -20,6 +22,9 @@ impl Tally {
         self.comparisons += other.comparisons;
         self.differences += other.differences;
         for (sum, more) in self.refusals.iter_mut().zip(other.refusals) {
+            *sum += more;
+        }
+        for (sum, more) in self.entries.iter_mut().zip(other.entries) {
             *sum += more;
         }
     }
@@ -75,6 +80,13 @@ impl<'a> Case<'a> {
     /// Counts an answer of the reference by its refusal number.
     pub fn seen(&mut self, refusal: u16) {
         self.tally.refusals[refusal as usize] += 1;
+    }
+
+    /// Counts the entries of a journal that the reference followed by their numbers.
+    pub fn followed(&mut self, numbers: &[u8]) {
+        for &number in numbers {
+            self.tally.entries[number as usize] += 1;
+        }
     }
 
     /// Compares what was expected, by the reference or by the paper, with what the library gave.

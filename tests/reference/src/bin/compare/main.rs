@@ -9,6 +9,7 @@ mod damage;
 mod enumerate;
 mod indexes;
 mod inside;
+mod journal;
 mod kinds;
 mod networks;
 mod one_order;
@@ -33,7 +34,7 @@ struct Part {
     run: fn(&mut Case),
 }
 
-const PARTS: [Part; 12] = [
+const PARTS: [Part; 17] = [
     Part {
         name: "paper",
         cases: 1,
@@ -90,6 +91,31 @@ const PARTS: [Part; 12] = [
         run: rows::random,
     },
     Part {
+        name: "journal-examples",
+        cases: 1,
+        run: journal::examples,
+    },
+    Part {
+        name: "journals",
+        cases: 2400,
+        run: journal::journals,
+    },
+    Part {
+        name: "journals-full",
+        cases: 24,
+        run: journal::full,
+    },
+    Part {
+        name: "journal-faults",
+        cases: 45,
+        run: journal::faults,
+    },
+    Part {
+        name: "journal-sequences",
+        cases: 260,
+        run: journal::sequences,
+    },
+    Part {
         name: "program",
         cases: 360,
         run: program::program,
@@ -106,7 +132,7 @@ fn run_part(part: &Part, seed: u64, only: Option<u64>) -> Tally {
         (part.run)(&mut Case::new(part.name, number, seed, &mut tally));
     }
     println!(
-        "{:<14}{:>6} cases{:>9} comparisons{:>4} differences{:>7.1} s",
+        "{:<18}{:>6} cases{:>9} comparisons{:>4} differences{:>7.1} s",
         part.name,
         cases,
         tally.comparisons,
@@ -116,13 +142,22 @@ fn run_part(part: &Part, seed: u64, only: Option<u64>) -> Tally {
     tally
 }
 
-/// Prints how often each refusal number was compared, and the sum.
-fn print_sum(sum: &Tally) {
-    let counts = sum.refusals.iter().enumerate();
+/// How often each number was given that was.
+fn counted(counts: &[u64]) -> String {
+    let counts = counts.iter().enumerate();
     let counts: Vec<String> = counts
+        .filter(|&(_, &count)| count > 0)
         .map(|(number, count)| format!("{number}: {count}"))
         .collect();
-    println!("answers by refusal: {}", counts.join(", "));
+    counts.join(", ")
+}
+
+/// Prints how often each refusal number was compared and each number of an entry, where entries were followed, and the sum.
+fn print_sum(sum: &Tally) {
+    println!("answers by refusal: {}", counted(&sum.refusals));
+    if sum.entries.iter().any(|&count| count > 0) {
+        println!("entries by number: {}", counted(&sum.entries));
+    }
     println!(
         "{} comparisons, {} differences",
         sum.comparisons, sum.differences

@@ -37,6 +37,20 @@ impl<T: Clone + Default> Table<T> {
     }
 }
 
+impl<T: Copy + PartialEq> Table<T> {
+    /// The place of the first entry that is another in a table as long, counted from the first lent one, and both entries.
+    pub fn difference(&self, other: &Table<T>) -> Option<(isize, T, T)> {
+        // Long tables, mostly equal, are compared as a whole first.
+        if self.entries == other.entries {
+            return None;
+        }
+        let mut pairs = self.entries.iter().zip(&other.entries);
+        let place = pairs.position(|(one, another)| one != another)?;
+        let lent = place as isize - GUARD as isize;
+        Some((lent, self.entries[place], other.entries[place]))
+    }
+}
+
 /// Lengths to try for a call that needs these: exactly enough, more by a few, none at all, and each table in turn one short.
 pub fn lengths_to_try<const TABLES: usize>(
     draw: &mut Draw,

@@ -1,0 +1,183 @@
+//! The journal: its check, and a set of links that follows its entries.
+use super::chunks::{chunks, chunks_mut};
+use super::network::{Link, HEADER_LENGTH, MOST_LINKS, MOST_MEMBERS};
+use super::Refusal;
+use cogsplice::JOURNAL_OUT;
+use std::collections::BTreeSet;
+
+const JOURNAL_HEADER_LENGTH: usize = 7;
+const NAMES: usize = 4;
+
+/// An entry as it stands in the journal.
+type Entry = [u8; 5];
+
+/// A set of links, each as the number that orders links by voucher, then vouched.
+pub trait Links: Default + Clone {
+    /// Adds a link, or gives the number that refuses it.
+    fn add(&mut self, link: u32) -> u8;
+    /// Takes a link out, or gives the number that refuses it.
+    fn withdraw(&mut self, link: u32) -> u8;
+    fn count(&self) -> usize;
+    fn clear(&mut self);
+    /// Writes the links as they stand in a file.
+    fn lay_out(&self, out: &mut [Link]);
+}
+
+/// A sorted vector.
+impl Links for Vec<u32> {
+    fn add(&mut self, link: u32) -> u8 {
+        match self.binary_search(&link) {
+            Ok(_) => 16,
+            Err(_) if self.len() == MOST_LINKS => 5,
+            Err(place) => {
+                self.insert(place, link);
+                0
+            }
+        }
+    }
+
+    fn withdraw(&mut self, link: u32) -> u8 {
+        match self.binary_search(&link) {
+            Ok(place) => {
+                self.remove(place);
+                0
+            }
+            Err(_) => 17,
+        }
+    }
+
+    fn count(&self) -> usize {
+        self.len()
+    }
+
+    fn clear(&mut self) {
+        self.clear();
+    }
+
+    fn lay_out(&self, out: &mut [Link]) {
+        lay_out(self.iter(), out);
+    }
+}
+
+impl Links for BTreeSet<u32> {
+    fn add(&mut self, link: u32) -> u8 {
+        if self.len() == MOST_LINKS && !self.contains(&link) {
+            return 5;
+        }
+        refused_unless(self.insert(link), 16)
+    }
+
+    fn withdraw(&mut self, link: u32) -> u8 {
+        refused_unless(self.remove(&link), 17)
+    }
+
+    fn count(&self) -> usize {
+        self.len()
+    }
+
+    fn clear(&mut self) {
+        self.clear();
+    }
+
+    fn lay_out(&self, out: &mut [Link]) {
+        lay_out(self.iter(), out);
+    }
+}
+
+fn refused_unless(done: bool, number: u8) -> u8 {
+    if done {
+        0
+    } else {
+        number
+    }
+}
+
+/// Voucher and vouched change places on the way to the number that orders links, and on the way back.
+fn lay_out<'a>(links: impl Iterator<Item = &'a u32>, out: &mut [Link]) {
+    for (entry, link) in out.iter_mut().zip(links) {
+        *entry = link.rotate_left(16).to_le_bytes();
+    }
+}
+
+/// The links present and those of the named states, in memory that is kept from call to call.
+#[derive(Default)]
+pub struct States<L> {
+    present: L,
+    named: [L; NAMES],
+    is_set: [bool; NAMES],
+}
+
+impl<L: Links> States<L> {
+    /// Follows the first `asked` entries, all where there are fewer, writes the file of the links then present and the number of each
+    /// entry followed, and returns m.
+    pub fn journal(
+        &mut self,
+        journal: &[u8],
+        asked: usize,
+        out: &mut [u8],
+        numbers: &mut [u8],
+    ) -> Result<[usize; 1], Refusal> {
+        let (n, entries) = split(journal)?;
+        let entries = &entries[..entries.len().min(asked)];
+        Refusal::of_tables(&[(out.len(), JOURNAL_OUT), (numbers.len(), entries.len())])?;
+        self.present.clear();
+        self.is_set = [false; NAMES];
+        for (number, &entry) in numbers.iter_mut().zip(entries) {
+            *number = self.follow(n, entry);
+        }
+        let m = self.present.count();
+        let (header, links) = out.split_at_mut(HEADER_LENGTH);
+        header[..5].copy_from_slice(b"VCH\x01\0");
+        header[5..7].copy_from_slice(&n.to_le_bytes());
+        header[7..].copy_from_slice(&(m as u16).to_le_bytes());
+        self.present.lay_out(&mut chunks_mut(links)[..m]);
+        Ok([m])
+    }
+
+    /// Does what an entry says, or gives the number that refuses it.
+    fn follow(&mut self, n: u16, [kind, a0, a1, b0, b1]: Entry) -> u8 {
+        let [a, b] = [[a0, a1], [b0, b1]].map(u16::from_le_bytes);
+        let link = u32::from(a) << 16 | u32::from(b);
+        let name = usize::from(a);
+        let is_name = name < NAMES && b == 0;
+        match kind {
+            0 | 1 if a.max(b) >= n => 10,
+            0 => self.present.add(link),
+            1 => self.present.withdraw(link),
+            2 if is_name => {
+                self.named[name].clone_from(&self.present);
+                self.is_set[name] = true;
+                0
+            }
+            3 if is_name && self.is_set[name] => {
+                self.present.clone_from(&self.named[name]);
+                0
+            }
+            _ => 18,
+        }
+    }
+}
+
+/// n and the entries, or the refusal that the header and the length give.
+fn split(journal: &[u8]) -> Result<(u16, &[Entry]), Refusal> {
+    if journal.len() < JOURNAL_HEADER_LENGTH {
+        return Err(Refusal::of(1));
+    }
+    let (header, rest) = journal.split_at(JOURNAL_HEADER_LENGTH);
+    let number = |at: usize| u16::from_le_bytes([header[at], header[at + 1]]);
+    let (version, n) = (number(3), number(5));
+    if !header.starts_with(b"VJN") {
+        return Err(Refusal::of(2));
+    }
+    if version != 1 {
+        return Err(Refusal::of(3));
+    }
+    if usize::from(n) > MOST_MEMBERS {
+        return Err(Refusal::of(4));
+    }
+    let (entries, odd) = chunks(rest);
+    if !odd.is_empty() {
+        return Err(Refusal::of(6));
+    }
+    Ok((n, entries))
+}

@@ -1,0 +1,40 @@
+-- What is said of a journal (02, wish 8): the numbers of its entries and the links present after them, and 5 by a law.
+use Rattle.std.specs.Prelude.{ℕ, false, ◌<◌, ◌*◌, ◌/◌, ◌%◌, List, ◌∷◌, ◌++◌, ◌≡◌}
+use Rattle.graph.specs.Range.{if, table}
+use Rattle.network.specs.File.{most_links, none}
+use Rattle.network.specs.Bytes.{u16}
+use Rattle.linkset.specs.Links.{Links}
+use Rattle.journal.specs.declared.Entry.TheVariants.{Add}
+use Rattle.journal.specs.Entries.{journal_mark, members, header_refusal}
+use Rattle.journal.specs.Journal.{live, State, number, after, numbers}
+use Rattle.journal.specs.Calls.{count_of}
+
+-- 02: mark, version and n
+abbrev pub journal_header : ℕ → List ℕ
+journal_header n = journal_mark ++ u16 1 ++ u16 n
+
+-- 02: an entry: kind, then two numbers
+abbrev pub entry : ℕ → ℕ → ℕ → List ℕ
+entry kind a b = kind ∷ u16 a ++ u16 b
+
+-- a set of links among n members as a list, voucher by voucher: of each pair of members 1 for a link, or 0
+abbrev pub pairs : ℕ → Links → List ℕ
+pairs n S = table (λ i. if (S (i / n) (i % n)) 1) (n * n)
+
+-- the numbers of the entries followed
+abbrev pub numbers_after : List ℕ → ℕ → List ℕ
+numbers_after j asked = numbers j (count_of j asked)
+
+-- the links present after them, as such a list
+abbrev pub pairs_after : List ℕ → ℕ → List ℕ
+pairs_after j asked = pairs (members j) (after j (count_of j asked)).present
+
+-- the header gives no refusal, the entries followed have these numbers, and these links are present after them
+pub record SaysJournal (j : List ℕ) (asked : ℕ) (given left : List ℕ) : Type 0 where
+  pub header : header_refusal j ≡ none
+  pub numbers : numbers_after j asked ≡ given
+  pub present : pairs_after j asked ≡ left
+
+-- 02: 5 for an addition to 8,192 links: no case shows it, as none has so many
+abbrev pub FullNumber : Type 0
+FullNumber = (n : ℕ) (s : State) (u v : ℕ) → u < n → v < n → s.present u v ≡ false → live n s.present ≡ most_links → number n s (Add u v) ≡ 5

@@ -1,0 +1,74 @@
+-- The file of the links that stand in a table: it is accepted and holds the set that the table keeps.
+use Prim.Native.Nat.{ℕ, suc, ◌≤◌}
+use mathlib.Core.List.{List, ◌++◌}
+use mathlib.Core.Logic.Iff
+use mathlib.Core.Path.{◌≡◌, sym, ap, ◌∙◌}
+use native.Mathlib.Omega.{arith}
+use lib.ListN.{length, drop}
+use lib.Seq.{sets}
+use Rattle.graph.specs.Graph.{Graph}
+use Rattle.graph.specs.Shapes.{Closed}
+use Rattle.graph.specs.Order.{Ascending}
+use Rattle.graph.proofs.Ranges.{flat-ext}
+use Rattle.graph.proofs.Stores.{length-past, drop_past}
+use Rattle.graph.proofs.Ascending.{ascending-edge_at, ascending-simple}
+use Rattle.network.specs.File.{most_members, link_at, graph_of}
+use Rattle.network.specs.Bytes.{header, written}
+use Rattle.network.proofs.Puts.{sets-front}
+use Rattle.network.proofs.Accepted.{accepted}
+use Rattle.network.proofs.Written.{length-written, written-order, written-size, written-linked, written-accepted}
+use Rattle.linkset.specs.Links.{Links}
+use Rattle.journal.specs.Entries.{members}
+use Rattle.journal.specs.Journal.{after, numbers}
+use Rattle.journal.specs.Calls.{count_of, work_entries, FileOf, SetWritten, JournalTold}
+use Rattle.journal.specs.Listed.{table_graph, listed}
+use Rattle.journal.specs.Tabled.{Stored}
+use Rattle.journal.proofs.Counts.{ends-below, live-size}
+use Rattle.journal.proofs.Findings.{files-finding}
+
+module _ (n : ℕ) (S : Links) (l : List ℕ) (m : ℕ) (order-most : n ≤ most_members) (h : Stored n S l m) where
+  abbrev g : Graph
+  g = table_graph n l m
+
+  ascending : Ascending g
+  ascending e k = h.keeps.sorted.ascends e (suc e) (omega arith) k
+
+  closed : Closed g
+  closed = record { source-below = λ e k. (ends-below n S l m h.keeps h.within e k).0; target_below = λ e k. (ends-below n S l m h.keeps h.within e k).1 }
+
+  -- the links are written as they stand
+  listed-written : listed n l m ≡ written g
+  listed-written = ap (λ t. header n m ++ t) (flat-ext m (λ i k. rw (ascending-edge_at g ascending i k)))
+
+  -- the file is one of the set
+  file-of : FileOf n S (listed n l m)
+  file-of = rw listed-written (record {
+    accepted = (accepted (written g)).1 (written-accepted order-most h.most closed (ascending-simple g ascending));
+    order = written-order g;
+    linked = λ u v. Iff.trans (written-linked g u v) (h.keeps.linked u v);
+  })
+
+  -- so it is the set that is written
+  pub set-written : (out out' : List ℕ) → link_at m ≤ length out → out' ≡ sets out 0 (listed n l m) → SetWritten n S out out' m
+  set-written out out' long e = record {
+    written = listed n l m;
+    front = e ∙ sets-front out (listed n l m) (omega (arith, length-listed)) ∙ ap (λ k. listed n l m ++ drop k out) length-listed;
+    long = length-listed;
+    file = file-of;
+    size = sym (ap (λ f. (graph_of f).size) listed-written ∙ written-size g);
+    live = sym (live-size n S l m h.keeps h.within);
+    finding = λ f k. files-finding n S (listed n l m) f file-of k;
+  }
+    where
+      length-listed : length (listed n l m) ≡ link_at m
+      length-listed = ap length listed-written ∙ length-written g
+
+-- a journal of which the first k entries were followed, in the entries of the work table that are needed, is told as the call promises
+pub journal-told : (j : List ℕ) (asked : ℕ) (out out' r r' w q : List ℕ) {k m : ℕ} → k ≡ count_of j asked → SetWritten (members j) (after j k).present out out' m
+    → r' ≡ numbers j k ++ drop k r → work_entries ≤ length w → length q ≡ work_entries → JournalTold j asked out out' r r' w (q ++ drop work_entries w) m
+journal-told j asked out out' r r' w q {k} {m} e s n l i =
+    record {
+      present = rw e at s;
+      numbered = rw e at n;
+      work = (length-past q w work_entries i l, drop_past q w work_entries work_entries i (omega arith));
+    }

@@ -1,0 +1,11 @@
+use Rattle.std.proofs.Common.{ap, ◌∙◌, arith}
+use Rattle.std.proofs.lemmas.List.Edits.{sets}
+use Rattle.journal.specs.Listed.{listed}
+use Rattle.journal.proofs.Files.{set-written}
+use Rattle.journal.proofs.asks.replay.Goals as goal
+
+pub returns-clause-present : goal.returns-clause-present
+returns-clause-present c =
+    let set = c.run-tally.ensures.tabled.present in
+    set-written _ _ _ _ c.requires.few set _ _ (omega (arith, c.requires.room, set.most))
+    (c.put_set.ensures ∙ ap (λ n. sets c.args.out.now 0 (listed n c.run-tally.new.work c.run-tally.result.live)) c.u16_at.ensures.0)

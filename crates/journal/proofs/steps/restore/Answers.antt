@@ -1,0 +1,9 @@
+-- 18 for a state never set; else the name's links are copied to those present.
+use Rattle.journal.proofs.Turning.{turned-unset, turned-restore}
+use Rattle.journal.proofs.steps.restore.Goals as goal
+
+pub returns-in_default : goal.returns-in_default
+returns-in_default c n s h = turned-unset n s _ _ h _ c.requires.name_in c.in_default.is
+
+pub returns : goal.returns
+returns c n s h = turned-restore n s _ _ h _ c.requires.name_in _ _ c.in-Some.is c.copy_back.ensures

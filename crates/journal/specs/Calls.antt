@@ -1,0 +1,65 @@
+-- What the journal call promises (02, wish 8).
+use Rattle.std.specs.Prelude.{ℕ, true, cond, ◌||◌, List, [], ◌∷◌, ◌++◌, ◌↔◌, ◌≡◌, ltb, length, drop}
+use Rattle.graph.specs.Graph.{Graph, Group, Linked}
+use Rattle.graph.specs.Core.{EqualLevelInside}
+use Rattle.graph.specs.Quiet.{OutcomeInside}
+use Rattle.network.specs.declared.Refusal.{Refusal}
+use Rattle.network.specs.File.{most_links, link_at, graph_of, none, plain, or_else, file_refusal}
+use Rattle.network.specs.Groups.{totals}
+use Rattle.network.specs.Calls.{Call}
+use Rattle.linkset.specs.Links.{Links}
+use Rattle.journal.specs.declared.JournalAnswer.{JournalAnswer}
+use Rattle.journal.specs.declared.JournalAnswer.TheVariants.{Written, Refused}
+use Rattle.journal.specs.Entries.{members, entries, header_refusal}
+use Rattle.journal.specs.Journal.{live, after, numbers}
+
+-- 02: how many entries are followed: as many as asked for; more than there are means all
+abbrev pub count_of : List ℕ → ℕ → ℕ
+count_of j asked = cond (ltb (entries j) asked) (entries j) asked
+
+-- 02: the length of the output, 32,777 bytes: that of a file with the most links
+abbrev pub out_length : ℕ
+out_length = link_at most_links
+
+-- 02: the length of the work table: the links present and four named states, each with the most links, two entries a link
+abbrev pub work_entries : ℕ
+work_entries = 81920
+
+-- the journal, how many entries are asked for, and the lengths of the output, of the table of numbers and of the work table
+unfoldable pub journal_refusal : List ℕ → ℕ → ℕ → ℕ → ℕ → Refusal
+journal_refusal j asked o r w = or_else (header_refusal j) (cond (ltb o out_length || ltb r (count_of j asked) || ltb w work_entries) (plain 9) none)
+
+-- a file of a set of links among n members: it is accepted, and so ordered, and its links are those of the set
+pub record FileOf (n : ℕ) (S : Links) (f : List ℕ) : Type 0 where
+  pub accepted : file_refusal f ≡ none
+  pub order : (graph_of f).order ≡ n
+  pub linked : (u v : ℕ) → Linked (graph_of f) u v ↔ (S u v ≡ true)
+
+-- inside any A and B two networks have the same finding: x, y, S and T, the equal level, E, |S| and |T|
+pub record SameFinding (g h : Graph) : Type 0 where
+  pub outcome : (A B : Group) (x y : ℕ) (S T : Group) → OutcomeInside g A B x y S T ↔ OutcomeInside h A B x y S T
+  pub equal : (A B : Group) (k : ℕ) → EqualLevelInside g A B k ↔ EqualLevelInside h A B k
+  pub counted : (S T : Group) → totals g S T ≡ totals h S T
+
+-- the file in the first bytes of the output is not empty, and is a file of the set S; a finding in it is that of every file of S; m is its m, and
+-- the number of links in S; and the later bytes are as they were
+pub record SetWritten (n : ℕ) (S : Links) (out out' : List ℕ) (m : ℕ) : Type 0 where
+  pub written : List ℕ
+  pub front : out' ≡ written ++ drop (link_at m) out
+  pub long : length written ≡ link_at m
+  pub file : FileOf n S written
+  pub size : m ≡ (graph_of written).size
+  pub live : m ≡ live n S
+  pub finding : (f : List ℕ) → FileOf n S f → SameFinding (graph_of written) (graph_of f)
+
+-- the links present after the entries followed are written, the numbers of these stand in their table, and what lies past both is unchanged
+pub record JournalTold (j : List ℕ) (asked : ℕ) (out out' r r' w w' : List ℕ) (m : ℕ) : Type 0 where
+  pub present : SetWritten (members j) (after j (count_of j asked)).present out out' m
+  pub numbered : r' ≡ numbers j (count_of j asked) ++ drop (count_of j asked) r
+  pub work : (length w' ≡ length w) × (drop work_entries w' ≡ drop work_entries w)
+
+-- the journal call
+abbrev pub JournalCall : (j : List ℕ) (asked : ℕ) (out out' r r' w w' : List ℕ) → JournalAnswer → Type 0
+JournalCall j asked out out' r r' w w' =
+    Call (journal_refusal j asked (length out) (length r) (length w)) Refused Written (out ∷ r ∷ w ∷ []) (out' ∷ r' ∷ w' ∷ [])
+    (JournalTold j asked out out' r r' w w')

@@ -1,0 +1,2 @@
+pub mod Links
+pub mod Tables

@@ -1,0 +1,87 @@
+-- A set of links in a list of numbers: they ascend by source, then target, and link e is at entries 2 e and 2 e + 1.
+use Rattle.std.specs.Prelude.{ℕ, ◌+◌, ◌-◌, ◌*◌, ◌/◌, ◌<◌, ◌≤◌, Bool, true, false, cond, ◌&&◌, List, ◌↔◌, ◌≡◌, ltb, length, get_or}
+use Rattle.graph.specs.Range.{if}
+use Rattle.graph.specs.Order.{lexicographic}
+use Rattle.linkset.specs.Links.{Links, is}
+
+-- the source of link e
+abbrev pub source_at : List ℕ → ℕ → ℕ
+source_at l e = get_or l (2 * e) 0
+
+-- and its target
+abbrev pub target_at : List ℕ → ℕ → ℕ
+target_at l e = get_or l (2 * e + 1) 0
+
+-- link e comes before the link from a to b
+abbrev pub before_at : List ℕ → ℕ → ℕ → ℕ → Bool
+before_at l a b e = lexicographic (source_at l e) a (ltb (target_at l e) b)
+
+-- the first m links ascend
+pub record Sorted (l : List ℕ) (m : ℕ) : Type 0 where
+  pub ascends : (d e : ℕ) → d < e → e < m → before_at l (source_at l e) (target_at l e) d ≡ true
+
+-- the link from u to v is one of the first m
+abbrev pub Stands : List ℕ → ℕ → ℕ → ℕ → Type 0
+Stands l m u v = (e : ℕ) × (e < m) × (source_at l e ≡ u) × (target_at l e ≡ v)
+
+-- the first m links ascend, and are those of a set
+pub record Keeps (S : Links) (l : List ℕ) (m : ℕ) : Type 0 where
+  pub sorted : Sorted l m
+  pub linked : (u v : ℕ) → Stands l m u v ↔ (S u v ≡ true)
+
+-- r of the first m links come before the link from a to b, and they are the first r
+pub record Place (l : List ℕ) (m a b r : ℕ) : Type 0 where
+  pub most : r ≤ m
+  pub before : (e : ℕ) → e < r → before_at l a b e ≡ true
+  pub from : (e : ℕ) → r ≤ e → e < m → before_at l a b e ≡ false
+
+-- a turn of the search: of the links that may come before the one sought, those from low on, as many as are left, so many are told to come before
+-- it or not
+abbrev pub told : ℕ → ℕ
+told left = cond (ltb left 4) 1 (3 * (left / 4))
+
+-- and so many of these come before it, where a test tells of a link whether it does
+abbrev pub passed : (ℕ → Bool) → ℕ → ℕ → ℕ
+passed before low left =
+    let quarter = left / 4 in
+    cond (ltb left 4) (if (before low) 1)
+    (quarter * (if (before (low + quarter)) 1 + if (before (low + 2 * quarter)) 1 + if (before (low + 3 * quarter)) 1))
+
+-- the link from a to b is at place r of the first m
+abbrev pub is_at : List ℕ → ℕ → ℕ → ℕ → ℕ → Bool
+is_at l m r a b = ltb r m && is a b (source_at l r) (target_at l r)
+
+-- l' is l with each entry moved up by a distance; the first ones stay as well
+pub record MovedUp (l l' : List ℕ) (by : ℕ) : Type 0 where
+  pub same_length : length l' ≡ length l
+  pub first : (k : ℕ) → k < by → get_or l' k 0 ≡ get_or l k 0
+  pub moved : (k : ℕ) → by ≤ k → k < length l → get_or l' k 0 ≡ get_or l (k - by) 0
+
+-- and moved down; the last ones stay as well
+pub record MovedDown (l l' : List ℕ) (by : ℕ) : Type 0 where
+  pub same_length : length l' ≡ length l
+  pub moved : (k : ℕ) → k + by < length l → get_or l' k 0 ≡ get_or l (k + by) 0
+  pub last : (k : ℕ) → length l ≤ k + by → get_or l' k 0 ≡ get_or l k 0
+
+-- l' is l with the links from place r on moved up by one
+pub record Opened (l l' : List ℕ) (m r : ℕ) : Type 0 where
+  pub same_length : length l' ≡ length l
+  pub front : (k : ℕ) → k < 2 * r → get_or l' k 0 ≡ get_or l k 0
+  pub moved : (k : ℕ) → 2 * r ≤ k → k < 2 * m → get_or l' (k + 2) 0 ≡ get_or l k 0
+  pub rest : (k : ℕ) → 2 * m + 2 ≤ k → get_or l' k 0 ≡ get_or l k 0
+
+-- l' is l with the link from a to b put in at place r of the first m
+pub record Inserted (l l' : List ℕ) (m r a b : ℕ) : Type 0 where
+  pub same_length : length l' ≡ length l
+  pub front : (k : ℕ) → k < 2 * r → get_or l' k 0 ≡ get_or l k 0
+  pub source : source_at l' r ≡ a
+  pub target : target_at l' r ≡ b
+  pub moved : (k : ℕ) → 2 * r ≤ k → k < 2 * m → get_or l' (k + 2) 0 ≡ get_or l k 0
+  pub rest : (k : ℕ) → 2 * m + 2 ≤ k → get_or l' k 0 ≡ get_or l k 0
+
+-- l' is l with the link at place r of the first m taken out
+pub record Removed (l l' : List ℕ) (m r : ℕ) : Type 0 where
+  pub same_length : length l' ≡ length l
+  pub front : (k : ℕ) → k < 2 * r → get_or l' k 0 ≡ get_or l k 0
+  pub moved : (k : ℕ) → 2 * r ≤ k → k + 2 < 2 * m → get_or l' k 0 ≡ get_or l (k + 2) 0
+  pub rest : (k : ℕ) → 2 * m ≤ k + 2 → get_or l' k 0 ≡ get_or l k 0
