@@ -52,25 +52,19 @@ pub record Required (j : List ℕ) (asked o r w : ℕ) : Type 0 where
   pub work : work_entries ≤ w
 
 module _ (j : List ℕ) (asked o r w : ℕ) where
-  -- no refusal exactly where all is as required
-  pub required : (journal_refusal j asked o r w ≡ none) ↔ Required j asked o r w
+  -- without a refusal all is as required,
+  required : journal_refusal j asked o r w ≡ none → Required j asked o r w
   unfolding journal_refusal
-  required = (taken, given)
-    where
-      taken : journal_refusal j asked o r w ≡ none → Required j asked o r w
-      taken h =
-          let (p, q) = (or_else-both _ (header-proper j)).0 h in
-          let (a, _) = (cond-none (ltb o out_length || ltb r (count_of j asked) || ltb w work_entries) (plain 9) none refl).0 q in
-          let (b, c) = (or-fails (ltb o out_length || ltb r (count_of j asked)) (ltb w work_entries)).0 a in
-          let (d, e) = (or-fails (ltb o out_length) (ltb r (count_of j asked))).0 b in
-          record { header = (headed j).0 p; out = (ltb-fails o out_length).0 d; numbers = (ltb-fails r (count_of j asked)).0 e; work = (ltb-fails w work_entries).0 c }
+  required h =
+      let (p, q) = (or_else-both _ (header-proper j)).0 h in
+      let (a, _) = (cond-none (ltb o out_length || ltb r (count_of j asked) || ltb w work_entries) (plain 9) none refl).0 q in
+      let (b, c) = (or-fails (ltb o out_length || ltb r (count_of j asked)) (ltb w work_entries)).0 a in
+      let (d, e) = (or-fails (ltb o out_length) (ltb r (count_of j asked))).0 b in
+      record { header = (headed j).0 p; out = (ltb-fails o out_length).0 d; numbers = (ltb-fails r (count_of j asked)).0 e; work = (ltb-fails w work_entries).0 c }
 
-      given : Required j asked o r w → journal_refusal j asked o r w ≡ none
-      given h = rw ((headed j).1 h.header, le-ltb o out_length h.out, le-ltb r (count_of j asked) h.numbers, le-ltb w work_entries h.work)
-
-  -- so where a call found no number
+  -- and so where a call found no number
   pub ready : {k : ℕ} → journal_refusal j asked o r w ≡ plain k → k ≡ 0 → Required j asked o r w
-  ready e z = required.0 (e ∙ ap plain z)
+  ready e z = required (e ∙ ap plain z)
 
 -- where the header gives no number it is in order
 pub header-ready : (j : List ℕ) {k : ℕ} → header_refusal j ≡ plain k → k ≡ 0 → Headed j
