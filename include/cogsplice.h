@@ -21,6 +21,13 @@
  * a name from 0 to 3, then 0). It begins without links and with no named state set. A named state holds until it is set again; returning
  * to one leaves all four as they are. Only cogsplice_journal takes a journal, and refuses one of zero bytes.
  *
+ * In a journal each member is due COGSPLICE_DUE vouches given and may have up to COGSPLICE_GIVEN: it has given as many as links present
+ * have it for their voucher. Live is the number of links present, due the total of what members lack to COGSPLICE_DUE, and live + due is
+ * never above COGSPLICE_LINKS. So a member with fewer than COGSPLICE_DUE is never refused for lack of places, whatever the others entered;
+ * among COGSPLICE_MEMBERS members none can give more than these. The place of a link that is withdrawn is used again: its voucher can
+ * enter one next, and what a member with more than COGSPLICE_DUE gives back is there for everyone who has not given COGSPLICE_GIVEN.
+ * Returning to a named state restores live and due.
+ *
  * A group is a table of bytes, one for each member: 1 in, 0 out. S is the group of vouchers, T that of the vouched. E(S,T) is
  * the number of links whose voucher is in S and whose vouched member is in T.
  *
@@ -34,7 +41,7 @@
  * longer than the call needs: what lies past the needed entries is neither read nor changed.
  *
  * Each entry that is followed has a number too: 0 where it does what it says, else one of COGSPLICE_REFUSED_.., the first that applies
- * in the order of the tests: 18, 10, 16, 17, 5. A refused entry is skipped: it changes nothing, and the next one is followed.
+ * in the order of the tests: 18, 10, 16, 17, 19, 20. A refused entry is skipped: it changes nothing, and the next one is followed.
  */
 #ifndef COGSPLICE_H
 #define COGSPLICE_H
@@ -49,6 +56,8 @@ extern "C" {
 
 #define COGSPLICE_MEMBERS 2048
 #define COGSPLICE_LINKS 8192
+#define COGSPLICE_GIVEN 64 /* the most vouches that a member may have given in a journal */
+#define COGSPLICE_DUE 4    /* the vouches due to each member of a journal */
 
 /* The entries that a table needs, for a file of n members and m links. */
 #define COGSPLICE_FILE(m) (9 + 4 * (size_t)(m))                           /* uint8_t: a network file, the output of write and order */
@@ -76,7 +85,7 @@ enum {
     COGSPLICE_REFUSED_MARK = 2,     /* its mark is not VCH; a journal's is not VJN */
     COGSPLICE_REFUSED_VERSION = 3,  /* its version is not 1 */
     COGSPLICE_REFUSED_MEMBERS = 4,  /* n is above COGSPLICE_MEMBERS */
-    COGSPLICE_REFUSED_LINKS = 5,    /* m is above COGSPLICE_LINKS; of an entry: it adds to COGSPLICE_LINKS links */
+    COGSPLICE_REFUSED_LINKS = 5,    /* m is above COGSPLICE_LINKS */
     COGSPLICE_REFUSED_LENGTH = 6,   /* its length is not COGSPLICE_FILE(m); a journal's is COGSPLICE_JOURNAL(k) for no k */
     COGSPLICE_REFUSED_END = 7,      /* a link names a member not below n; the first such link */
     COGSPLICE_REFUSED_REPEAT = 8,   /* a link repeats an earlier one; the first such link */
@@ -90,7 +99,9 @@ enum {
     /* of an entry alone */
     COGSPLICE_REFUSED_PRESENT = 16, /* the link that it adds is present */
     COGSPLICE_REFUSED_ABSENT = 17,  /* the link that it withdraws is absent */
-    COGSPLICE_REFUSED_ENTRY = 18    /* its kind or its name is above 3, its name is not followed by 0, or it returns to a state never set */
+    COGSPLICE_REFUSED_ENTRY = 18,   /* its kind or its name is above 3, its name is not followed by 0, or it returns to a state never set */
+    COGSPLICE_REFUSED_GIVEN = 19,   /* the voucher of the link that it adds has given COGSPLICE_GIVEN */
+    COGSPLICE_REFUSED_PLACE = 20    /* that voucher has given COGSPLICE_DUE or more, and live + due is COGSPLICE_LINKS */
 };
 
 /* The side of a row: what a member vouches for, or who vouches for it. */

@@ -112,7 +112,7 @@ fn fill(links: &mut Vec<Link>, n: usize, m: usize, mut draw: impl FnMut() -> Lin
 }
 
 /// So many different links, in random order.
-pub fn uniform(n: usize, m: usize, random: &mut Draw) -> Vec<Link> {
+fn uniform(n: usize, m: usize, random: &mut Draw) -> Vec<Link> {
     let mut links = Vec::new();
     fill(&mut links, n, m, || (random.below(n), random.below(n)));
     links

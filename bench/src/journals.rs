@@ -1,5 +1,4 @@
 //! The journals that are measured, the same in every run.
-use crate::inputs::uniform;
 use networks::{Draw, Link};
 
 const MEMBERS: usize = 2048;
@@ -32,27 +31,40 @@ struct Shares {
     refused: usize,
 }
 
+/// The members that each member vouches for.
+type Vouched = Vec<Vec<usize>>;
+
 /// A journal that is drawn, and the links that its entries leave present.
 struct Draft {
     bytes: Vec<u8>,
-    present: Vec<Link>,
-    named: [Vec<Link>; NAMES],
+    /// How many vouches each member has given where the network is full. Nobody gives more.
+    most: usize,
+    present: Vouched,
+    named: [Vouched; NAMES],
 }
 
 impl Draft {
-    /// The journal that fills the network, in random order, and then sets every named state.
-    fn full(random: &mut Draw) -> Self {
+    /// The journal that fills the network, in random order and by as many vouches of each of so many members, and then sets every named
+    /// state.
+    fn full(members: usize, random: &mut Draw) -> Self {
         let mut draft = Self {
             bytes: b"VJN\x01\0".to_vec(),
-            present: Vec::new(),
+            most: LINKS / members,
+            present: vec![Vec::new(); members],
             named: Default::default(),
         };
-        draft.bytes.extend((MEMBERS as u16).to_le_bytes());
-        for link in uniform(MEMBERS, LINKS, random) {
-            draft.add(link);
+        draft.bytes.extend((members as u16).to_le_bytes());
+        let mut vouchers: Vec<usize> = (0..LINKS).map(|place| place % members).collect();
+        random.shuffle(&mut vouchers);
+        for voucher in vouchers {
+            draft.add(voucher, random);
         }
         (0..NAMES).for_each(|name| draft.set(name));
         draft
+    }
+
+    fn is_full(&self) -> bool {
+        self.present.iter().all(|row| row.len() == self.most)
     }
 
     fn enter(&mut self, kind: u8, (a, b): Link) {
@@ -61,12 +73,11 @@ impl Draft {
         self.bytes.extend(numbers.concat());
     }
 
-    /// Adds a link that is absent; refused by 5 where the network is full.
-    fn add(&mut self, link: Link) {
+    /// Adds a link of this voucher that is absent.
+    fn add(&mut self, voucher: usize, random: &mut Draw) {
+        let link = self.absent(voucher, random);
         self.enter(ADD, link);
-        if self.present.len() < LINKS {
-            self.present.push(link);
-        }
+        self.present[voucher].push(link.1);
     }
 
     fn set(&mut self, name: usize) {
@@ -79,19 +90,35 @@ impl Draft {
         self.present = self.named[name].clone();
     }
 
-    /// A link between random members: nearly always one that is absent.
-    fn absent(random: &mut Draw) -> Link {
-        (random.below(MEMBERS), random.below(MEMBERS))
+    /// A link of this voucher that is absent.
+    fn absent(&self, voucher: usize, random: &mut Draw) -> Link {
+        loop {
+            let vouched = random.below(self.present.len());
+            if !self.present[voucher].contains(&vouched) {
+                return (voucher, vouched);
+            }
+        }
     }
 
-    /// Adds a link or withdraws one, as often.
+    /// A voucher and the number of one of its vouches, of those that a full network has: one that is present, or one that is not.
+    fn place(&self, is_present: bool, random: &mut Draw) -> (usize, usize) {
+        loop {
+            let (voucher, number) = (random.below(self.present.len()), random.below(self.most));
+            if (number < self.present[voucher].len()) == is_present {
+                return (voucher, number);
+            }
+        }
+    }
+
+    /// Adds a link or withdraws one, as often; in a full network it withdraws.
     fn change(&mut self, random: &mut Draw) {
-        if random.one_in(2) {
-            self.add(Self::absent(random));
+        let adds = random.one_in(2) && !self.is_full();
+        let (voucher, number) = self.place(!adds, random);
+        if adds {
+            self.add(voucher, random);
         } else {
-            let place = random.below(self.present.len());
-            let link = self.present.swap_remove(place);
-            self.enter(WITHDRAW, link);
+            let vouched = self.present[voucher].swap_remove(number);
+            self.enter(WITHDRAW, (voucher, vouched));
         }
     }
 
@@ -105,22 +132,32 @@ impl Draft {
         }
     }
 
-    /// An entry for one of the numbers that refuse it; for 5 the network must be full.
+    /// An entry for one of the numbers that refuse it; for 20, or for 19 where everyone has given 64, the network must be full.
     fn refused(&mut self, random: &mut Draw) {
-        let absent = Self::absent(random);
-        match random.below(5) {
+        let voucher = random.below(self.present.len());
+        let absent = self.absent(voucher, random);
+        match random.below(4 + usize::from(self.is_full())) {
             0 => self.enter(4, absent),
-            1 => self.enter(ADD, (absent.0, MEMBERS)),
-            2 => self.enter(ADD, random.pick(&self.present)),
+            1 => self.enter(ADD, (voucher, MEMBERS)),
+            2 => {
+                let (voucher, number) = self.place(true, random);
+                self.enter(ADD, (voucher, self.present[voucher][number]));
+            }
             3 => self.enter(WITHDRAW, absent),
-            _ => self.add(absent),
+            _ => self.enter(ADD, absent),
         }
     }
 }
 
-/// So many entries from a full network on.
-fn drawn(name: &'static str, entries: usize, shares: Shares, random: &mut Draw) -> Journal {
-    let mut draft = Draft::full(random);
+/// So many entries from a full network of so many members on.
+fn drawn(
+    name: &'static str,
+    members: usize,
+    entries: usize,
+    shares: Shares,
+    random: &mut Draw,
+) -> Journal {
+    let mut draft = Draft::full(members, random);
     for _ in 0..entries {
         let share = random.below(100);
         if share < shares.states {
@@ -143,11 +180,11 @@ fn drawn(name: &'static str, entries: usize, shares: Shares, random: &mut Draw) 
 
 /// The first link of a full network is withdrawn and added again: whatever lies behind it moves each time.
 fn at_the_front(name: &'static str, entries: usize, random: &mut Draw) -> Journal {
-    let mut draft = Draft::full(random);
-    let first = draft.present.iter().min().copied();
-    let first = first.expect("a full network has links");
+    let mut draft = Draft::full(MEMBERS, random);
+    let first = draft.present[0].iter().min().copied();
+    let first = first.expect("member 0 of a full network vouches for others");
     for kind in [WITHDRAW, ADD].into_iter().cycle().take(entries) {
-        draft.enter(kind, first);
+        draft.enter(kind, (0, first));
     }
     let bytes = draft.bytes;
     Journal {
@@ -164,13 +201,27 @@ pub fn journals() -> Vec<Journal> {
     vec![
         drawn(
             "additions, withdrawals, sets and returns",
+            MEMBERS,
             100_000,
             shares(1, 5),
             random,
         ),
-        drawn("additions and withdrawals", 100_000, shares(0, 5), random),
+        drawn(
+            "additions and withdrawals",
+            MEMBERS,
+            100_000,
+            shares(0, 5),
+            random,
+        ),
+        drawn(
+            "additions and withdrawals of 128 members",
+            128,
+            100_000,
+            shares(0, 5),
+            random,
+        ),
         at_the_front("the first link out and in", 100_000, random),
-        drawn("refused entries", 100_000, shares(0, 100), random),
-        drawn("sets and returns", 4_000, shares(90, 0), random),
+        drawn("refused entries", MEMBERS, 100_000, shares(0, 100), random),
+        drawn("sets and returns", MEMBERS, 4_000, shares(90, 0), random),
     ]
 }

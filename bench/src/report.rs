@@ -86,8 +86,9 @@ one pass and search among these; for the layers plain Rust takes those that have
 each layer. For the harmonic measure both find the next place to drop by a tree of matches over the places, in which a place whose
 degree fell plays only up to the first match that it loses; plain Rust has the leaves of the tree in a table too, and stops dropping
 where no link is left. For a journal plain Rust has the links present in a sorted vector, each as a number of 32 bits that orders them, and
-so each named state. It finds a link by binary search, moves what lies behind it in one piece, and copies a state in one piece, all in
-memory that is kept from call to call.
+so each named state, with the totals live and due beside each. It finds a link by binary search, and by two more among the 64 links on
+either side how many its voucher has given; it has no table of the members. It moves what lies behind a link in one piece, and copies a
+state in one piece, all in memory that is kept from call to call.
 Everyone is in A and B, but for the table of half of the members. Links ascend, unless it is said that they stand in random order.
 "
     )
@@ -207,11 +208,13 @@ fn order_table(measured: &[Measured]) -> String {
 
 /// The journals, with a set of another kind beside the two sides.
 fn journal_table(journals: &[Followed]) -> String {
-    let mut text = "Each journal first adds 8,192 links of 2,048 members, in random order, and sets the four named states: 8,196 of its entries. The others are
-what it is called by. One in twenty of the additions and withdrawals is drawn to be refused; one in a hundred sets a named state or returns to
-one, where these are among them. One in ten of the sets and returns is an addition or a withdrawal. Where the first link is withdrawn and
-added again, all others move each time. Where all entries but the first ones are drawn to be refused, little but the search is timed: this
-journal has no goal. Beside the two sides stands plain Rust over a BTreeSet, whose copies are allocated.
+    let mut text = "Each journal first adds 8,192 links in random order and sets the four named states: 8,196 of its entries. The links are four of each of
+2,048 members, or 64 of each of 128 where it is called by these. The other entries are what it is called by. A link is added for a member
+that has given fewer than at first; in a full network one is withdrawn. One in twenty of the additions and withdrawals is drawn to be
+refused; one in a hundred sets a named state or returns to one, where these are among them. One in ten of the sets and returns is an
+addition or a withdrawal. Where the first link is withdrawn and added again, all others move each time. Where all entries but the first
+ones are drawn to be refused, little but the search is timed: this journal has no goal. Beside the two sides stands plain Rust over a
+BTreeSet, whose copies are allocated.
 
 | Journal | Entries | Refused | Library (µs) | Plain Rust (µs) | Ratio | With a BTreeSet (µs) |
 |---|---|---|---|---|---|---|

@@ -4,20 +4,50 @@ use super::network::{Link, HEADER_LENGTH, MOST_LINKS, MOST_MEMBERS};
 use super::Refusal;
 use cogsplice::JOURNAL_OUT;
 use std::collections::BTreeSet;
+use std::ops::RangeInclusive;
 
 const JOURNAL_HEADER_LENGTH: usize = 7;
 const NAMES: usize = 4;
+const MOST_GIVEN: usize = 64;
+const DUE: usize = 4;
 
 /// An entry as it stands in the journal.
 type Entry = [u8; 5];
 
+/// The number of links, live, and the total of what all members lack to four, due.
+#[derive(Clone, Copy, Default)]
+pub struct Totals {
+    live: usize,
+    due: usize,
+}
+
+impl Totals {
+    /// Counts one link more of a member that has given so many, or gives the number that refuses it.
+    fn add(&mut self, given: usize) -> u8 {
+        if given == MOST_GIVEN {
+            return 19;
+        }
+        if given >= DUE && self.live + self.due == MOST_LINKS {
+            return 20;
+        }
+        self.live += 1;
+        self.due -= usize::from(given < DUE);
+        0
+    }
+
+    /// Counts one link less of a member that had given so many.
+    fn withdraw(&mut self, given: usize) {
+        self.live -= 1;
+        self.due += usize::from(given <= DUE);
+    }
+}
+
 /// A set of links, each as the number that orders links by voucher, then vouched.
 pub trait Links: Default + Clone {
-    /// Adds a link, or gives the number that refuses it.
-    fn add(&mut self, link: u32) -> u8;
-    /// Takes a link out, or gives the number that refuses it.
-    fn withdraw(&mut self, link: u32) -> u8;
-    fn count(&self) -> usize;
+    /// Adds a link and counts it, or gives the number that refuses it.
+    fn add(&mut self, link: u32, totals: &mut Totals) -> u8;
+    /// Takes a link out and counts it no more, or gives the number that refuses it.
+    fn withdraw(&mut self, link: u32, totals: &mut Totals) -> u8;
     fn clear(&mut self);
     /// Writes the links as they stand in a file.
     fn lay_out(&self, out: &mut [Link]);
@@ -25,20 +55,23 @@ pub trait Links: Default + Clone {
 
 /// A sorted vector.
 impl Links for Vec<u32> {
-    fn add(&mut self, link: u32) -> u8 {
+    fn add(&mut self, link: u32, totals: &mut Totals) -> u8 {
         match self.binary_search(&link) {
             Ok(_) => 16,
-            Err(_) if self.len() == MOST_LINKS => 5,
             Err(place) => {
-                self.insert(place, link);
-                0
+                let number = totals.add(given(self, place, link));
+                if number == 0 {
+                    self.insert(place, link);
+                }
+                number
             }
         }
     }
 
-    fn withdraw(&mut self, link: u32) -> u8 {
+    fn withdraw(&mut self, link: u32, totals: &mut Totals) -> u8 {
         match self.binary_search(&link) {
             Ok(place) => {
+                totals.withdraw(given(self, place, link));
                 self.remove(place);
                 0
             }
@@ -46,10 +79,6 @@ impl Links for Vec<u32> {
         }
     }
 
-    fn count(&self) -> usize {
-        self.len()
-    }
-
     fn clear(&mut self) {
         self.clear();
     }
@@ -57,22 +86,43 @@ impl Links for Vec<u32> {
     fn lay_out(&self, out: &mut [Link]) {
         lay_out(self.iter(), out);
     }
+}
+
+/// How many links have the voucher of a link that stands, or would stand, at this place. All are among the nearest on either side, since
+/// nobody has given more.
+fn given(links: &[u32], place: usize, link: u32) -> usize {
+    let (before, from) = links.split_at(place);
+    let before = &before[place.saturating_sub(MOST_GIVEN)..];
+    let from = &from[..from.len().min(MOST_GIVEN)];
+    let own = vouches(link);
+    let others = before.partition_point(|other| other < own.start());
+    before.len() - others + from.partition_point(|other| other <= own.end())
+}
+
+/// All links that have the voucher of this one.
+fn vouches(link: u32) -> RangeInclusive<u32> {
+    link & 0xffff_0000..=link | 0xffff
 }
 
 impl Links for BTreeSet<u32> {
-    fn add(&mut self, link: u32) -> u8 {
-        if self.len() == MOST_LINKS && !self.contains(&link) {
-            return 5;
+    fn add(&mut self, link: u32, totals: &mut Totals) -> u8 {
+        if !self.insert(link) {
+            return 16;
         }
-        refused_unless(self.insert(link), 16)
+        // Counted with the link, which is seldom to be taken out again.
+        let number = totals.add(self.range(vouches(link)).count() - 1);
+        if number > 0 {
+            self.remove(&link);
+        }
+        number
     }
 
-    fn withdraw(&mut self, link: u32) -> u8 {
-        refused_unless(self.remove(&link), 17)
-    }
-
-    fn count(&self) -> usize {
-        self.len()
+    fn withdraw(&mut self, link: u32, totals: &mut Totals) -> u8 {
+        if !self.remove(&link) {
+            return 17;
+        }
+        totals.withdraw(self.range(vouches(link)).count() + 1);
+        0
     }
 
     fn clear(&mut self) {
@@ -81,14 +131,6 @@ impl Links for BTreeSet<u32> {
 
     fn lay_out(&self, out: &mut [Link]) {
         lay_out(self.iter(), out);
-    }
-}
-
-fn refused_unless(done: bool, number: u8) -> u8 {
-    if done {
-        0
-    } else {
-        number
     }
 }
 
@@ -99,11 +141,43 @@ fn lay_out<'a>(links: impl Iterator<Item = &'a u32>, out: &mut [Link]) {
     }
 }
 
+/// Links and their totals.
+#[derive(Default)]
+struct State<L> {
+    links: L,
+    totals: Totals,
+}
+
+impl<L: Links> State<L> {
+    /// The state without links of so many members.
+    fn clear(&mut self, n: u16) {
+        self.links.clear();
+        self.totals = Totals {
+            live: 0,
+            due: DUE * usize::from(n),
+        };
+    }
+
+    fn add(&mut self, link: u32) -> u8 {
+        self.links.add(link, &mut self.totals)
+    }
+
+    fn withdraw(&mut self, link: u32) -> u8 {
+        self.links.withdraw(link, &mut self.totals)
+    }
+
+    /// Becomes the same as another state, in the memory that it has.
+    fn copy_from(&mut self, other: &Self) {
+        self.links.clone_from(&other.links);
+        self.totals = other.totals;
+    }
+}
+
 /// The links present and those of the named states, in memory that is kept from call to call.
 #[derive(Default)]
 pub struct States<L> {
-    present: L,
-    named: [L; NAMES],
+    present: State<L>,
+    named: [State<L>; NAMES],
     is_set: [bool; NAMES],
 }
 
@@ -120,17 +194,17 @@ impl<L: Links> States<L> {
         let (n, entries) = split(journal)?;
         let entries = &entries[..entries.len().min(asked)];
         Refusal::of_tables(&[(out.len(), JOURNAL_OUT), (numbers.len(), entries.len())])?;
-        self.present.clear();
+        self.present.clear(n);
         self.is_set = [false; NAMES];
         for (number, &entry) in numbers.iter_mut().zip(entries) {
             *number = self.follow(n, entry);
         }
-        let m = self.present.count();
+        let m = self.present.totals.live;
         let (header, links) = out.split_at_mut(HEADER_LENGTH);
         header[..5].copy_from_slice(b"VCH\x01\0");
         header[5..7].copy_from_slice(&n.to_le_bytes());
         header[7..].copy_from_slice(&(m as u16).to_le_bytes());
-        self.present.lay_out(&mut chunks_mut(links)[..m]);
+        self.present.links.lay_out(&mut chunks_mut(links)[..m]);
         Ok([m])
     }
 
@@ -145,12 +219,12 @@ impl<L: Links> States<L> {
             0 => self.present.add(link),
             1 => self.present.withdraw(link),
             2 if is_name => {
-                self.named[name].clone_from(&self.present);
+                self.named[name].copy_from(&self.present);
                 self.is_set[name] = true;
                 0
             }
             3 if is_name && self.is_set[name] => {
-                self.present.clone_from(&self.named[name]);
+                self.present.copy_from(&self.named[name]);
                 0
             }
             _ => 18,

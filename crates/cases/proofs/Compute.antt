@@ -27,9 +27,11 @@ use Rattle.graph.proofs.Layers.{layer-make, layer-product}
 use Rattle.network.specs.declared.Refusal.{Refusal}
 use Rattle.network.specs.File.{graph_of, none, old_refusal, file_refusal}
 use Rattle.network.specs.Bytes.{written}
-use Rattle.journal.specs.Entries.{header_refusal}
-use Rattle.cases.specs.Journals.{numbers_after, pairs_after, SaysJournal}
-use Rattle.cases.specs.Cases.{members, Ring, Counts, Claim, core, level, across, finding, layers, harmonic, has, gives, orders, follows, heads, Rings, Says, Case, Hold}
+use Rattle.journal.specs.Entries.{members as members_of, header_refusal}
+use Rattle.journal.specs.Journal.{live, due, after}
+use Rattle.journal.specs.Calls.{count_of}
+use Rattle.cases.specs.Journals.{numbers_after, pairs_after, SaysJournal, SaysTotals}
+use Rattle.cases.specs.Cases.{members, Ring, Counts, Claim, core, level, across, finding, layers, harmonic, has, gives, orders, follows, totals, heads, Rings, Says, Case, Hold}
 use Rattle.cases.proofs.Sweep.{with_out, with_in, sources_left, targets_left, covers-sweep}
 use Rattle.cases.proofs.Drops.{drops, found_of, places-found}
 
@@ -359,6 +361,19 @@ journal-sound j asked numbers present h =
       present = equal-sound (pairs_after j asked) present t;
     }
 
+-- the test of both totals after some of a journal's entries,
+abbrev pub is_totals : List ℕ → (asked l d : ℕ) → Bool
+is_totals j asked l d =
+    let S = (after j (count_of j asked)).present in
+    is_refusal (header_refusal j) none && (eqb (live (members_of j) S) l && eqb (due (members_of j) S) d)
+
+-- by the definitions
+totals-sound : (j : List ℕ) (asked l d : ℕ) → is_totals j asked l d ≡ true → SaysTotals j asked l d
+totals-sound j asked l d h =
+    let (p, r) = both (is_refusal (header_refusal j) none) _ h in
+    let (q, t) = both (eqb (live (members_of j) (after j (count_of j asked)).present) l) _ r in
+    record { header = refusal-sound (header_refusal j) none p; live_is = eqb-true _ l q; due_is = eqb-true _ d t }
+
 -- the test of a claim on a file inside A and B
 abbrev pub holds : List ℕ → Group → Group → Claim → Bool
 holds f A B (core x y S T E) = is_accepted f && (is_core (graph_of f) A B x y (members S) (members T) && is_counts (graph_of f) S T E)
@@ -374,6 +389,7 @@ holds f A B (has n m) = is_refusal (file_refusal f) none && (eqb (graph_of f).or
 holds f A B (gives r) = is_refusal (file_refusal f) r
 holds f A B (orders w) = is_refusal (old_refusal f) none && (are_equal (written (graph_of f)) w && is_refusal (file_refusal w) none)
 holds f A B (follows asked numbers present) = is_journal f asked numbers present
+holds f A B (totals asked l d) = is_totals f asked l d
 holds f A B (heads r) = is_refusal (header_refusal f) r
 
 -- a claim that passes its test holds
@@ -422,6 +438,7 @@ holds-sound f A B (orders w) h =
     let (p, q) = both (are_equal (written (graph_of f)) w) _ r in
     (refusal-sound (old_refusal f) none a, equal-sound (written (graph_of f)) w p, refusal-sound (file_refusal w) none q)
 holds-sound f A B (follows asked numbers present) h = journal-sound f asked numbers present h
+holds-sound f A B (totals asked l d) h = totals-sound f asked l d h
 holds-sound f A B (heads r) h = refusal-sound (header_refusal f) r h
 
 -- the test of every case of a table

@@ -10,7 +10,7 @@ use Rattle.network.specs.declared.Refusal.{Refusal}
 use Rattle.network.specs.File.{mark, graph_of, none, plain, at, old_refusal, file_refusal}
 use Rattle.network.specs.Bytes.{u16, header, edge_bytes, written}
 use Rattle.journal.specs.Entries.{journal_mark, header_refusal}
-use Rattle.cases.specs.Journals.{journal_header, entry, SaysJournal}
+use Rattle.cases.specs.Journals.{journal_header, entry, SaysJournal, SaysTotals}
 
 -- the group of the listed members
 abbrev pub members : List ℕ → Group
@@ -48,6 +48,8 @@ pub data Claim : Type 0 where
   -- the bytes are a journal that is not refused; of its entries the first `asked` are followed, or all where there are fewer: these have the
   -- listed numbers, and the links present after them are the listed ones, 1 or 0 for each pair of members
   follows : (asked : ℕ) (numbers present : List ℕ) → Claim
+  -- and so many are live and due after the entries followed
+  totals : (asked live due : ℕ) → Claim
   -- the journal's header gives this refusal, or none
   heads : Refusal → Claim
 
@@ -101,6 +103,7 @@ Says f A B (has n m) = (file_refusal f ≡ none) × ((graph_of f).order ≡ n) �
 Says f A B (gives r) = file_refusal f ≡ r
 Says f A B (orders w) = (old_refusal f ≡ none) × (written (graph_of f) ≡ w) × (file_refusal w ≡ none)
 Says f A B (follows asked numbers present) = SaysJournal f asked numbers present
+Says f A B (totals asked live due) = SaysTotals f asked live due
 Says f A B (heads r) = header_refusal f ≡ r
 
 -- a file or a journal, the groups A and B, and one claim on it inside them
@@ -126,7 +129,7 @@ star_and_ring = header 9 8 ++ edge_bytes 0 4 ++ edge_bytes 1 4 ++ edge_bytes 2 4
 abbrev pub one_offs : List ℕ
 one_offs = header 8 9 ++ edge_bytes 1 0 ++ edge_bytes 2 0 ++ edge_bytes 3 0 ++ edge_bytes 4 0 ++ edge_bytes 5 0 ++ edge_bytes 6 1 ++ edge_bytes 6 2 ++ edge_bytes 7 1 ++ edge_bytes 7 2
 
--- a month over 2 members, which meets each number but 5
+-- a month over 2 members, which meets each number but 19 and 20
 abbrev pub month : List ℕ
 month =
     journal_header 2
@@ -159,6 +162,28 @@ month =
 -- the numbers of its entries
 abbrev pub month_numbers : List ℕ
 month_numbers = 0 ∷ 16 ∷ 17 ∷ 10 ∷ 0 ∷ 18 ∷ 0 ∷ 0 ∷ 0 ∷ 0 ∷ 0 ∷ 0 ∷ 0 ∷ 0 ∷ 0 ∷ 0 ∷ 0 ∷ 18 ∷ 18 ∷ 18 ∷ []
+
+-- 02, wish 9: a busy member among 6
+abbrev pub busy : List ℕ
+busy =
+    journal_header 6
+    -- 0 vouches for four
+    ++ entry 0 0 0
+    ++ entry 0 0 1
+    ++ entry 0 0 2
+    ++ entry 0 0 3
+    -- again (16), and for a fifth
+    ++ entry 0 0 3
+    ++ entry 0 0 4
+    -- name 1 is set; 1 vouches for one
+    ++ entry 2 1 0
+    ++ entry 0 1 0
+    -- 0 withdraws its fifth and its fourth; again (17)
+    ++ entry 1 0 4
+    ++ entry 1 0 3
+    ++ entry 1 0 3
+    -- a return to 1
+    ++ entry 3 1 0
 
 -- one case of the table, among everyone
 abbrev pub says : List ℕ → Claim → Case
@@ -294,6 +319,22 @@ cases =
     ∷ says (journal_header 2 ++ entry 2 4 2) (follows 1 (18 ∷ []) (0 ∷ 0 ∷ 0 ∷ 0 ∷ []))
     -- both bytes of a number count
     ∷ says (journal_header 2 ++ entry 0 256 0 ++ entry 0 0 256 ++ entry 2 256 0) (follows 3 (10 ∷ 10 ∷ 18 ∷ []) (0 ∷ 0 ∷ 0 ∷ 0 ∷ []))
+    -- four are due to each of six members, and for n below 4 too
+    ∷ says busy (totals 0 0 24)
+    ∷ says (journal_header 3) (totals 0 0 12)
+    ∷ says (journal_header 0) (totals 0 0 0)
+    -- a member's fourth lowers due; a refused entry moves nothing, and a fifth leaves due
+    ∷ says busy (totals 3 3 21)
+    ∷ says busy (totals 4 4 20)
+    ∷ says busy (totals 5 4 20)
+    ∷ says busy (totals 6 5 20)
+    -- a withdrawal from five leaves due too, one from four raises it
+    ∷ says busy (totals 8 6 19)
+    ∷ says busy (totals 9 5 19)
+    ∷ says busy (totals 10 4 20)
+    ∷ says busy (totals 11 4 20)
+    -- a return restores both totals
+    ∷ says busy (totals 12 5 20)
     -- a journal's header: under 7 bytes, of which zero bytes too
     ∷ says [] (heads (plain 1))
     ∷ says (take 6 (journal_header 2)) (heads (plain 1))

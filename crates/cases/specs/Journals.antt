@@ -1,12 +1,12 @@
--- What is said of a journal (02, wish 8): the numbers of its entries and the links present after them, and 5 by a law.
-use Rattle.std.specs.Prelude.{ℕ, false, ◌<◌, ◌*◌, ◌/◌, ◌%◌, List, ◌∷◌, ◌++◌, ◌≡◌}
+-- What is said of a journal (02, wishes 8 and 9): the numbers of its entries, the links present after them and both totals; and 19 and 20 by a law.
+use Rattle.std.specs.Prelude.{ℕ, false, ◌+◌, ◌<◌, ◌≤◌, ◌*◌, ◌/◌, ◌%◌, List, ◌∷◌, ◌++◌, ◌≡◌}
 use Rattle.graph.specs.Range.{if, table}
 use Rattle.network.specs.File.{most_links, none}
 use Rattle.network.specs.Bytes.{u16}
 use Rattle.linkset.specs.Links.{Links}
 use Rattle.journal.specs.declared.Entry.TheVariants.{Add}
 use Rattle.journal.specs.Entries.{journal_mark, members, header_refusal}
-use Rattle.journal.specs.Journal.{live, State, number, after, numbers}
+use Rattle.journal.specs.Journal.{given, live, due, State, number, after, numbers}
 use Rattle.journal.specs.Calls.{count_of}
 
 -- 02: mark, version and n
@@ -35,6 +35,17 @@ pub record SaysJournal (j : List ℕ) (asked : ℕ) (given left : List ℕ) : Ty
   pub numbers : numbers_after j asked ≡ given
   pub present : pairs_after j asked ≡ left
 
--- 02: 5 for an addition to 8,192 links: no case shows it, as none has so many
-abbrev pub FullNumber : Type 0
-FullNumber = (n : ℕ) (s : State) (u v : ℕ) → u < n → v < n → s.present u v ≡ false → live n s.present ≡ most_links → number n s (Add u v) ≡ 5
+-- the header gives no refusal, and so many are live and due after the entries followed
+pub record SaysTotals (j : List ℕ) (asked l d : ℕ) : Type 0 where
+  pub header : header_refusal j ≡ none
+  pub live_is : live (members j) (after j (count_of j asked)).present ≡ l
+  pub due_is : due (members j) (after j (count_of j asked)).present ≡ d
+
+-- 02, wish 9: an addition of an absent link between two members, by a voucher that has given 64, gets 19; and by one that has given four or more, and
+-- not 64, it gets 20 where live + due is 8,192: no case shows these numbers, as none has so many links or members
+pub record PlaceNumbers (n : ℕ) (s : State) (u v : ℕ) : Type 0 where
+  pub all_given : given n s.present u ≡ 64 → number n s (Add u v) ≡ 19
+  pub no_place : 4 ≤ given n s.present u → given n s.present u < 64 → live n s.present + due n s.present ≡ most_links → number n s (Add u v) ≡ 20
+
+abbrev pub PlaceNumbersHold : Type 0
+PlaceNumbersHold = (n : ℕ) (s : State) (u v : ℕ) → u < n → v < n → s.present u v ≡ false → PlaceNumbers n s u v

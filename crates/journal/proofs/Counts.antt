@@ -1,15 +1,15 @@
--- How many links a table has, and how many of them leave a vertex: as many as the set that it keeps.
+-- How many links of a table leave a vertex: as many as of the set that it keeps.
 use Prim.Native.Nat.{ℕ, ◌<◌}
 use mathlib.Core.Bool.{Bool, true, false, ◌&&◌}
 use mathlib.Core.List.{List}
 use mathlib.Core.Path.{◌≡◌, refl, sym, ap, ◌∙◌}
 use lib.Dec.{eqb}
 use Rattle.graph.specs.Range.{sum, if}
-use Rattle.graph.proofs.Sums.{sum-ext, sum-swap, sum-pick, sum_ones, if-sum}
+use Rattle.graph.proofs.Sums.{sum-ext, sum-swap, sum-pick, if-sum}
 use Rattle.linkset.specs.Links.{Links}
 use Rattle.linkset.specs.Tables.{source_at, target_at, Keeps}
 use Rattle.linkset.proofs.Sets.{keeps-once}
-use Rattle.journal.specs.Journal.{given, live}
+use Rattle.journal.specs.Journal.{given}
 use Rattle.journal.specs.Tabled.{Within}
 
 module _ (n : ℕ) (S : Links) (l : List ℕ) (m : ℕ) (k : Keeps S l m) (w : Within n S) where
@@ -30,12 +30,3 @@ module _ (n : ℕ) (S : Links) (l : List ℕ) (m : ℕ) (k : Keeps S l m) (w : W
       nest : (p q : Bool) → if (p && q) 1 ≡ if p (if q 1)
       nest true q = refl
       nest false q = refl
-
-  -- and the set has as many links as the table
-  pub live-size : live n S ≡ m
-  unfolding live
-  live-size =
-      sum-ext n (λ u i. given-count u)
-      ∙ sum-swap (λ u e. if (eqb (source_at l e) u) 1) m n
-      ∙ sum-ext m (λ e h. sum-pick (λ u. 1) n (source_at l e) (ends-below e h).0)
-      ∙ sum_ones m

@@ -22,11 +22,17 @@ use Rattle.journal.specs.Entries.{members}
 use Rattle.journal.specs.Journal.{after, numbers}
 use Rattle.journal.specs.Calls.{count_of, work_entries, FileOf, SetWritten, JournalTold}
 use Rattle.journal.specs.Listed.{table_graph, listed}
+use Rattle.journal.specs.Places.{Balanced}
+use Rattle.journal.specs.declared.Totals.{Totals}
 use Rattle.journal.specs.Tabled.{Stored}
-use Rattle.journal.proofs.Counts.{ends-below, live-size}
+use Rattle.journal.proofs.Counts.{ends-below}
 use Rattle.journal.proofs.Findings.{files-finding}
+use Rattle.journal.proofs.Places.{places-after}
 
-module _ (n : ℕ) (S : Links) (l : List ℕ) (m : ℕ) (order-most : n ≤ most_members) (h : Stored n S l m) where
+module _ (n : ℕ) (S : Links) (l : List ℕ) (t : Totals) (order-most : n ≤ most_members) (b : Balanced n S) (h : Stored n S l t) where
+  abbrev m : ℕ
+  m = t.live
+
   abbrev g : Graph
   g = table_graph n l m
 
@@ -43,7 +49,7 @@ module _ (n : ℕ) (S : Links) (l : List ℕ) (m : ℕ) (order-most : n ≤ most
   -- the file is one of the set
   file-of : FileOf n S (listed n l m)
   file-of = rw listed-written (record {
-    accepted = (accepted (written g)).1 (written-accepted order-most h.most closed (ascending-simple g ascending));
+    accepted = (accepted (written g)).1 (written-accepted order-most (omega (arith, h.live_is, b.fits)) closed (ascending-simple g ascending));
     order = written-order g;
     linked = λ u v. Iff.trans (written-linked g u v) (h.keeps.linked u v);
   })
@@ -56,7 +62,7 @@ module _ (n : ℕ) (S : Links) (l : List ℕ) (m : ℕ) (order-most : n ≤ most
     long = length-listed;
     file = file-of;
     size = sym (ap (λ f. (graph_of f).size) listed-written ∙ written-size g);
-    live = sym (live-size n S l m h.keeps h.within);
+    live = h.live_is;
     finding = λ f k. files-finding n S (listed n l m) f file-of k;
   }
     where
@@ -64,11 +70,12 @@ module _ (n : ℕ) (S : Links) (l : List ℕ) (m : ℕ) (order-most : n ≤ most
       length-listed = ap length listed-written ∙ length-written g
 
 -- a journal of which the first k entries were followed, in the entries of the work table that are needed, is told as the call promises
-pub journal-told : (j : List ℕ) (asked : ℕ) (out out' r r' w q : List ℕ) {k m : ℕ} → k ≡ count_of j asked → SetWritten (members j) (after j k).present out out' m
+pub journal-told : (j : List ℕ) (asked : ℕ) (out out' r r' w q : List ℕ) {k m : ℕ} → members j ≤ most_members → k ≡ count_of j asked → SetWritten (members j) (after j k).present out out' m
     → r' ≡ numbers j k ++ drop k r → work_entries ≤ length w → length q ≡ work_entries → JournalTold j asked out out' r r' w (q ++ drop work_entries w) m
-journal-told j asked out out' r r' w q {k} {m} e s n l i =
+journal-told j asked out out' r r' w q {k} {m} few e s n l i =
     record {
       present = rw e at s;
       numbered = rw e at n;
+      places = places-after j few (count_of j asked);
       work = (length-past q w work_entries i l, drop_past q w work_entries work_entries i (omega arith));
     }

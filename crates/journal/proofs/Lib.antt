@@ -1,5 +1,7 @@
 pub mod Counts
 pub mod Numbers
+pub mod Changes
+pub mod Places
 pub mod Turning
 pub mod Headers
 pub mod Running

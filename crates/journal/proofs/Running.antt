@@ -2,7 +2,7 @@
 use Prim.Native.Nat.{ℕ, zero, suc, ◌+◌, ◌<◌, ◌≤◌}
 use mathlib.Core.Bool.{Bool, true, false, cond, not, ◌&&◌, false≢true}
 use mathlib.Core.List.{List, ◌++◌}
-use mathlib.Core.Path.{◌≡◌, refl}
+use mathlib.Core.Path.{◌≡◌, refl, sym}
 use native.Mathlib.Numerals.{add-one}
 use native.Mathlib.Omega.{arith}
 use borrow.Author.Tests.{leb-true}
@@ -12,14 +12,16 @@ use lib.ListN.{length, get_or, set, drop, replicate}
 use Rattle.graph.specs.Range.{flat}
 use Rattle.graph.proofs.Ranges.{table-fill}
 use Rattle.graph.proofs.Tests.{and_left, and_right}
-use Rattle.network.specs.File.{u16_at}
+use Rattle.network.specs.File.{most_members, u16_at}
 use Rattle.linkset.proofs.Sets.{keeps-none}
 use Rattle.journal.specs.declared.Tally.{Tally}
 use Rattle.journal.specs.declared.Entry.TheVariants.{Add, Withdraw, Save, Restore, Malformed}
 use Rattle.journal.specs.Entries.{members, entry_start, entry_of, entry_at}
 use Rattle.journal.specs.Journal.{step, after, number_at, numbers}
 use Rattle.journal.specs.Calls.{work_entries}
-use Rattle.journal.specs.Tabled.{Known, set_start, Tabled, name_of}
+use Rattle.journal.specs.Tabled.{Known, set_start, Tabled, begin, name_of}
+use Rattle.journal.proofs.Changes.{live-empty, due-empty}
+use Rattle.journal.proofs.Places.{sound-start}
 
 -- an entry's name is below 4
 name_below : (kind a b : ℕ) → name_of (entry_of kind a b) < 4
@@ -46,12 +48,14 @@ none-known n l (suc (suc (suc zero))) = tt
 none-known n l (suc (suc (suc (suc x)))) = tt
 
 -- before the first entry
-pub tabled-begin : (j l : List ℕ) → work_entries ≤ length l → Tabled (members j) (after j 0) l (record { live = 0; named = replicate 4 None })
+pub tabled-begin : (j l : List ℕ) → members j ≤ most_members → work_entries ≤ length l
+    → Tabled (members j) (after j 0) l (begin (members j))
 unfolding after
-tabled-begin j l h = record {
+tabled-begin j l few h = record {
   long = h;
   four = refl;
-  present = record { keeps = keeps-none l; within = λ u v t. absurd (false≢true t); most = omega arith };
+  sound = sound-start (members j) few;
+  present = record { keeps = keeps-none l; within = λ u v t. absurd (false≢true t); live_is = sym (live-empty (members j)); due_is = sym (due-empty (members j)) };
   named = λ x m. none-known (members j) (drop (set_start (x + 1)) l) x;
 }
 

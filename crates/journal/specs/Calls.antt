@@ -1,4 +1,4 @@
--- What the journal call promises (02, wish 8).
+-- What the journal call promises (02, wishes 8 and 9).
 use Rattle.std.specs.Prelude.{ℕ, true, cond, ◌||◌, List, [], ◌∷◌, ◌++◌, ◌↔◌, ◌≡◌, ltb, length, drop}
 use Rattle.graph.specs.Graph.{Graph, Group, Linked}
 use Rattle.graph.specs.Core.{EqualLevelInside}
@@ -12,6 +12,7 @@ use Rattle.journal.specs.declared.JournalAnswer.{JournalAnswer}
 use Rattle.journal.specs.declared.JournalAnswer.TheVariants.{Written, Refused}
 use Rattle.journal.specs.Entries.{members, entries, header_refusal}
 use Rattle.journal.specs.Journal.{live, after, numbers}
+use Rattle.journal.specs.Places.{Places}
 
 -- 02: how many entries are followed: as many as asked for; more than there are means all
 abbrev pub count_of : List ℕ → ℕ → ℕ
@@ -52,10 +53,12 @@ pub record SetWritten (n : ℕ) (S : Links) (out out' : List ℕ) (m : ℕ) : Ty
   pub live : m ≡ live n S
   pub finding : (f : List ℕ) → FileOf n S f → SameFinding (graph_of written) (graph_of f)
 
--- the links present after the entries followed are written, the numbers of these stand in their table, and what lies past both is unchanged
+-- the links present after the entries followed are written, the numbers of these stand in their table, and what lies past both is unchanged; and
+-- whatever the entries were, everyone still finds the places that 02 promises
 pub record JournalTold (j : List ℕ) (asked : ℕ) (out out' r r' w w' : List ℕ) (m : ℕ) : Type 0 where
   pub present : SetWritten (members j) (after j (count_of j asked)).present out out' m
   pub numbered : r' ≡ numbers j (count_of j asked) ++ drop (count_of j asked) r
+  pub places : Places (members j) (after j (count_of j asked))
   pub work : (length w' ≡ length w) × (drop work_entries w' ≡ drop work_entries w)
 
 -- the journal call

@@ -1,5 +1,6 @@
 pub mod Entries
 pub mod Journal
+pub mod Places
 pub mod Calls
 pub mod Listed
 pub mod Tabled

@@ -1,31 +1,38 @@
 -- The work table and the tally hold the state of a journal. Set 0 is the links present, set x + 1 those of name x; a set starts at entry 16,384
 -- times its number.
-use Rattle.std.specs.Prelude.{ℕ, ◌+◌, ◌*◌, ◌<◌, ◌≤◌, true, List, ◌⊎◌, ◌≡◌, Option, Some, None, ⊤, length, get_or, drop}
-use Rattle.network.specs.File.{most_links}
+use Rattle.std.specs.Prelude.{ℕ, ◌+◌, ◌-◌, ◌*◌, ◌<◌, ◌≤◌, true, cond, List, ◌⊎◌, ◌≡◌, Option, Some, None, ⊤, leb, ltb, length, get_or, drop, replicate}
 use Rattle.linkset.specs.Links.{Links}
 use Rattle.linkset.specs.Tables.{Keeps}
+use Rattle.journal.specs.declared.Totals.{Totals}
 use Rattle.journal.specs.declared.Tally.{Tally}
 use Rattle.journal.specs.declared.Entry.{Entry}
 use Rattle.journal.specs.declared.Entry.TheVariants.{Add, Withdraw, Save, Restore, Malformed}
 use Rattle.journal.specs.Calls.{work_entries}
-use Rattle.journal.specs.Journal.{State, number, step}
+use Rattle.journal.specs.Journal.{live, due, State, number, step}
+use Rattle.journal.specs.Places.{Balanced}
 
 -- every link of a set joins two of n members
 abbrev pub Within : ℕ → Links → Type 0
 Within n S = (u v : ℕ) → S u v ≡ true → (u < n) × (v < n)
 
--- the first m links of a table are those of a set among n members
-pub record Stored (n : ℕ) (S : Links) (l : List ℕ) (m : ℕ) : Type 0 where
-  pub keeps : Keeps S l m
+-- the first links of a table, as many as are live, are those of a set among n members, and the record holds both totals of the set
+pub record Stored (n : ℕ) (S : Links) (l : List ℕ) (t : Totals) : Type 0 where
+  pub keeps : Keeps S l t.live
   pub within : Within n S
-  pub most : m ≤ most_links
+  pub live_is : t.live ≡ live n S
+  pub due_is : t.due ≡ due n S
 
--- a named state and what is known of it: both were never set, or its links are the first of a table
-abbrev pub Known : ℕ → List ℕ → Option Links → Option ℕ → Type 0
+-- a named state and what is known of it: both were never set, or its links are the first of a table, and the record is theirs
+abbrev pub Known : ℕ → List ℕ → Option Links → Option Totals → Type 0
 Known n l None None = ⊤
-Known n l (Some S) (Some m) = Stored n S l m
-Known n l None (Some m) = ⊥
+Known n l (Some S) (Some t) = Stored n S l t
+Known n l None (Some t) = ⊥
 Known n l (Some S) None = ⊥
+
+-- the links present, and those of every named state, are balanced
+pub record Sound (n : ℕ) (s : State) : Type 0 where
+  pub present : Balanced n s.present
+  pub named : (x : ℕ) (S : Links) → s.named x ≡ Some S → Balanced n S
 
 -- where a set starts
 abbrev pub set_start : ℕ → ℕ
@@ -35,7 +42,8 @@ set_start i = 16384 * i
 pub record Tabled (n : ℕ) (s : State) (l : List ℕ) (t : Tally) : Type 0 where
   pub long : work_entries ≤ length l
   pub four : length t.named ≡ 4
-  pub present : Stored n s.present l t.live
+  pub sound : Sound n s
+  pub present : Stored n s.present l t.present
   pub named : (x : ℕ) → x < 4 → Known n (drop (set_start (x + 1)) l) (s.named x) (get_or t.named x None)
 
 -- they hold some state
@@ -50,6 +58,18 @@ pub record Turned (n : ℕ) (s : State) (e : Entry) (l : List ℕ) (t : Tally) (
 -- an entry, of number k, makes l' and t' of the table l and the tally t, whatever state they hold
 abbrev pub Turns : ℕ → Entry → (l : List ℕ) (t : Tally) (l' : List ℕ) (t' : Tally) → ℕ → Type 0
 Turns n e l t l' t' k = (s : State) → Tabled n s l t → Turned n s e l' t' k
+
+-- before the first entry no link is present, four are due to each of n members, and no state is set
+abbrev pub begin : ℕ → Tally
+begin n = record { present = record { live = 0; due = 4 * n }; named = replicate 4 None }
+
+-- an added link takes a place, and is one of its voucher's four where that has given fewer
+abbrev pub added : Totals → ℕ → Totals
+added t given = record { live = t.live + 1; due = cond (ltb given 4) (t.due - 1) t.due }
+
+-- a withdrawn link gives its place back, and its voucher lacks one more where it has given at most four
+abbrev pub withdrawn : Totals → ℕ → Totals
+withdrawn t given = record { live = t.live - 1; due = cond (leb given 4) (t.due + 1) t.due }
 
 -- the name in an entry, or 0
 abbrev pub name_of : Entry → ℕ

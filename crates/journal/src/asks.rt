@@ -42,8 +42,8 @@ fn replay(
     ensures work_length { length work.new ≡ length work.old }
 {
     let tally = run(journal, count, work, numbers);
-    put_set(work, u16_at(journal, 5), tally.live, out);
-    tally.live
+    put_set(work, u16_at(journal, 5), tally.present.live, out);
+    tally.present.live
 }
 
 // 02, wish 8: the journal. The work table is handed on without what lies past the entries that are needed.

@@ -1,4 +1,4 @@
-// The month as a journal (02, wish 8): entries that add and withdraw links are followed, and the links then present are written as a file.
+// The month as a journal (02, wishes 8 and 9): entries that add and withdraw links are followed, and the links then present are written as a file.
 #![tactic(auto)]
 
 mod asks;
@@ -6,6 +6,7 @@ mod copies;
 mod entries;
 mod runs;
 mod steps;
+mod tallies;
 mod writes;
 
 use network::{MOST_LINKS, Refusal};
@@ -31,11 +32,18 @@ pub enum Entry {
     Malformed,
 }
 
-// How many links are present, and for each name how many its state has, where it was set.
+// 02, wish 9: live, the links of a set, and due, the total of what members lack to four.
+#[derive(Clone, Copy)]
+pub struct Totals {
+    pub live: usize,
+    pub due: usize,
+}
+
+// The running totals: those of the links present, and for each name those of its state, where it was set.
 #[derive(Clone, Copy)]
 pub struct Tally {
-    pub live: usize,
-    pub named: [Option<usize>; 4],
+    pub present: Totals,
+    pub named: [Option<Totals>; 4],
 }
 
 // What the journal call answers: m of the file written, or the refusal.

@@ -21,10 +21,7 @@ pub fn run(journal: &[u8], count: usize, work: &mut [u16], results: &mut [u8]) -
     ensures work_length { length work.new ≡ length work.old }
 {
     let order = u16_at(journal, 5);
-    let mut tally = Tally {
-        live: 0,
-        named: [None; 4],
-    };
+    let mut tally = Tally::new(order);
     for i in 0..count {
         results[i] = follow(work, &mut tally, order, entry_at(journal, i));
     }

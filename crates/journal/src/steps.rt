@@ -4,9 +4,8 @@ ghost use Rattle.network.specs.File.{most_members};
 ghost use Rattle.journal.specs.Tabled.{Holds, Turns, name_of};
 
 use crate::copies::{copy_back, copy_out};
-use crate::{Entry, Tally};
-use linkset::{insert, is_at, place, remove};
-use network::MOST_LINKS;
+use crate::{Entry, Tally, tallies};
+use linkset::{degree, insert, is_at, place, remove};
 
 // Kind 0: a link is put in at its place.
 fn add(work: &mut [u16], tally: &mut Tally, order: usize, source: usize, target: usize) -> u8
@@ -17,18 +16,20 @@ fn add(work: &mut [u16], tally: &mut Tally, order: usize, source: usize, target:
     if order <= source || order <= target {
         return 10;
     }
-    let size = tally.live;
+    let size = tally.present.live;
     let u = source as u16;
     let v = target as u16;
     let at = place(work, size, u, v);
     if is_at(work, size, at, u, v) {
         return 16;
     }
-    if size == MOST_LINKS {
-        return 5;
+    let given = degree(work, size, at, u);
+    let number = tally.present.place_number(given);
+    if number != 0 {
+        return number;
     }
     insert(work, size, at, u, v);
-    tally.live = size + 1;
+    tallies::add(tally, given);
     0
 }
 
@@ -41,15 +42,16 @@ fn withdraw(work: &mut [u16], tally: &mut Tally, order: usize, source: usize, ta
     if order <= source || order <= target {
         return 10;
     }
-    let size = tally.live;
+    let size = tally.present.live;
     let u = source as u16;
     let v = target as u16;
     let at = place(work, size, u, v);
     if !is_at(work, size, at, u, v) {
         return 17;
     }
+    let given = degree(work, size, at, u);
     remove(work, size, at);
-    tally.live = size - 1;
+    tallies::withdraw(tally, given);
     0
 }
 
@@ -59,9 +61,8 @@ fn save(work: &mut [u16], tally: &mut Tally, name: usize) -> u8
     requires holds { (n : ℕ) × Holds n work.old tally.old }
     ensures { (n : ℕ) → Turns n (Entry.Save name) work.old tally.old work.new tally.new result }
 {
-    let size = tally.live;
-    copy_out(work, name, size);
-    tally.named[name] = Some(size);
+    copy_out(work, name, tally.present.live);
+    tallies::save(tally, name);
     0
 }
 
@@ -71,11 +72,11 @@ fn restore(work: &mut [u16], tally: &mut Tally, name: usize) -> u8
     requires holds { (n : ℕ) × Holds n work.old tally.old }
     ensures { (n : ℕ) → Turns n (Entry.Restore name) work.old tally.old work.new tally.new result }
 {
-    let Some(size) = tally.named[name] else {
+    let Some(named) = tally.named[name] else {
         return 18;
     };
-    copy_back(work, name, size);
-    tally.live = size;
+    copy_back(work, name, named.live);
+    tallies::restore(tally, named);
     0
 }
 

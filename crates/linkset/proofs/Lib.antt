@@ -1,2 +1,3 @@
+pub mod Degrees
 pub mod Places
 pub mod Sets

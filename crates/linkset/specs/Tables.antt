@@ -1,6 +1,6 @@
 -- A set of links in a list of numbers: they ascend by source, then target, and link e is at entries 2 e and 2 e + 1.
-use Rattle.std.specs.Prelude.{ℕ, ◌+◌, ◌-◌, ◌*◌, ◌/◌, ◌<◌, ◌≤◌, Bool, true, false, cond, ◌&&◌, List, ◌↔◌, ◌≡◌, ltb, length, get_or}
-use Rattle.graph.specs.Range.{if}
+use Rattle.std.specs.Prelude.{ℕ, ◌+◌, ◌-◌, ◌*◌, ◌/◌, ◌<◌, ◌≤◌, Bool, true, false, cond, ◌&&◌, List, ◌↔◌, ◌≡◌, eqb, ltb, length, get_or}
+use Rattle.graph.specs.Range.{sum, if}
 use Rattle.graph.specs.Order.{lexicographic}
 use Rattle.linkset.specs.Links.{Links, is}
 
@@ -29,23 +29,48 @@ pub record Keeps (S : Links) (l : List ℕ) (m : ℕ) : Type 0 where
   pub sorted : Sorted l m
   pub linked : (u v : ℕ) → Stands l m u v ↔ (S u v ≡ true)
 
--- r of the first m links come before the link from a to b, and they are the first r
-pub record Place (l : List ℕ) (m a b r : ℕ) : Type 0 where
-  pub most : r ≤ m
-  pub before : (e : ℕ) → e < r → before_at l a b e ≡ true
-  pub from : (e : ℕ) → r ≤ e → e < m → before_at l a b e ≡ false
+-- how many of the first m links have source u
+abbrev pub degree_of : List ℕ → ℕ → ℕ → ℕ
+degree_of l m u = sum (λ e. if (eqb (source_at l e) u) 1) m
 
--- a turn of the search: of the links that may come before the one sought, those from low on, as many as are left, so many are told to come before
--- it or not
+-- a test holds of the first r of m links, and of no other
+pub record Parted (test : ℕ → Bool) (m r : ℕ) : Type 0 where
+  pub most : r ≤ m
+  pub before : (e : ℕ) → e < r → test e ≡ true
+  pub from : (e : ℕ) → r ≤ e → e < m → test e ≡ false
+
+-- r of the first m links come before the link from a to b, and they are the first r
+abbrev pub Place : List ℕ → (m a b r : ℕ) → Type 0
+Place l m a b r = Parted (before_at l a b) m r
+
+-- what a search asks of link e: whether it comes before the link from a to b; by one end, whether its source is below a
+abbrev pub earlier : ℕ → List ℕ → ℕ → ℕ → ℕ → Bool
+earlier ends l a b e = cond (eqb ends 1) (ltb (source_at l e) a) (before_at l a b e)
+
+-- of which of m links a test holds is open for those from low on, as many as are left: it holds of all below, and of none past them
+pub record Narrowed (test : ℕ → Bool) (m low left : ℕ) : Type 0 where
+  pub most : low + left ≤ m
+  pub below : (e : ℕ) → e < low → test e ≡ true
+  pub past : (e : ℕ) → low + left ≤ e → e < m → test e ≡ false
+
+-- a quarter of so many links, where one is left out between each two quarters
+abbrev pub quarter_of : ℕ → ℕ
+quarter_of left = (left - 3) / 4 + 1
+
+-- a turn of the search: of so many links these are told to come before the one sought or not
 abbrev pub told : ℕ → ℕ
-told left = cond (ltb left 4) 1 (3 * (left / 4))
+told left = cond (ltb left 3) 1 (3 * quarter_of left)
 
 -- and so many of these come before it, where a test tells of a link whether it does
 abbrev pub passed : (ℕ → Bool) → ℕ → ℕ → ℕ
-passed before low left =
-    let quarter = left / 4 in
-    cond (ltb left 4) (if (before low) 1)
-    (quarter * (if (before (low + quarter)) 1 + if (before (low + 2 * quarter)) 1 + if (before (low + 3 * quarter)) 1))
+passed test low left =
+    let quarter = quarter_of left in
+    let last = low + quarter - 1 in
+    cond (ltb left 3) (if (test low) 1) (if (test last) quarter + if (test (last + quarter)) quarter + if (test (last + 2 * quarter)) quarter)
+
+-- the most links of one source in a set of which a degree is asked for
+abbrev pub most_of_source : ℕ
+most_of_source = 64
 
 -- the link from a to b is at place r of the first m
 abbrev pub is_at : List ℕ → ℕ → ℕ → ℕ → ℕ → Bool

@@ -1,9 +1,34 @@
 // A set of links in a table of numbers: the links ascend by source, then target, and each takes two entries.
 #![tactic(auto)]
 
-ghost use Rattle.std.specs.Prelude.{◌≡◌, ◌+◌, ◌*◌, ◌<◌, ◌≤◌, length};
+ghost use Rattle.std.specs.Prelude.{ℕ, ◌≡◌, ◌+◌, ◌*◌, ◌<◌, ◌≤◌, length};
 ghost use Rattle.graph.specs.Range.{if};
-ghost use Rattle.linkset.specs.Tables.{before_at, is_at, Sorted, Place, told, passed, MovedUp, MovedDown, Opened, Inserted, Removed};
+ghost use Rattle.linkset.specs.Tables.{
+  is_at,
+  degree_of,
+  most_of_source,
+  Sorted,
+  Place,
+  Parted,
+  Narrowed,
+  earlier,
+  quarter_of,
+  told,
+  passed,
+  MovedUp,
+  MovedDown,
+  Opened,
+  Inserted,
+  Removed,
+};
+
+// The most links of one source in a set of which a degree is asked for.
+const MOST_OF_SOURCE: usize = 64;
+
+// What a search compares: sources alone, or both ends.
+const SOURCE: usize = 1;
+
+const BOTH: usize = 2;
 
 // A link as one number, by which links are compared: by source, then by target.
 fn key(source: u16, target: u16) -> u32
@@ -12,38 +37,87 @@ fn key(source: u16, target: u16) -> u32
     65536 * source as u32 + target as u32
 }
 
-// 1 where a link of a set comes before the link from source to target, else 0: what is borrowed in a subtraction, so that there is no branch.
-fn comes_before(set: &[u16], link: usize, source: u16, target: u16) -> usize
+// Whether a link of a set comes before the link from source to target; by sources alone, whether its own is less.
+fn comes_before<const ENDS: usize>(set: &[u16], link: usize, source: u16, target: u16) -> bool
     requires { 2 * link + 1 < length set.now }
-    ensures { result ≡ if (before_at set.now source target link) 1 }
+    ensures { result ≡ earlier ENDS set.now source target link }
 {
-    let own = key(set[2 * link], set[2 * link + 1]) as usize;
-    let other = key(source, target) as usize;
-    (0xffff_ffff + other - own) / 0x1_0000_0000
+    if ENDS == SOURCE {
+        return set[2 * link] < source;
+    }
+    key(set[2 * link], set[2 * link + 1]) < key(source, target)
 }
 
-// Of the links that may come before the one sought, how many are told by one turn to come before it or not: three quarters, or one of the last few.
+// A quarter of so many links, where a link is left out between each two.
+fn quarter_of(left: usize) -> usize
+    requires { 3 ≤ left }
+    ensures { result ≡ quarter_of left }
+{
+    (left - 3) / 4 + 1
+}
+
+// Of the links that may come before the one sought, how many are told by one turn to come before it or not: three quarters, or one of the last two.
 fn told(left: usize) -> usize
     ensures { result ≡ told left }
 {
-    if left < 4 { 1 } else { 3 * (left / 4) }
+    if left < 3 { 1 } else { 3 * quarter_of(left) }
+}
+
+// So many, or none. It is made without a branch: which of the two comes could not be foretold.
+fn counted(holds: bool, many: usize) -> usize
+    ensures { result ≡ if holds many }
+{
+    if holds { many } else { 0 }
 }
 
 // How many of these are told to come before it: the quarters by the three links between them, which are read side by side.
-fn passed(set: &[u16], low: usize, left: usize, source: u16, target: u16) -> usize
+fn passed<const ENDS: usize>(
+    set: &[u16],
+    low: usize,
+    left: usize,
+    source: u16,
+    target: u16,
+) -> usize
     requires some { 0 < left }
     requires room { 2 * (low + left) ≤ length set.now }
-    ensures count { result ≡ passed (before_at set.now source target) low left }
-    ensures most { result ≤ left }
+    ensures count { result ≡ passed (earlier ENDS set.now source target) low left }
+    ensures most { result ≤ told left }
 {
-    if left < 4 {
-        return comes_before(set, low, source, target);
+    if left < 3 {
+        return counted(comes_before::<ENDS>(set, low, source, target), 1);
     }
-    let quarter = left / 4;
-    quarter
-        * (comes_before(set, low + quarter, source, target)
-            + comes_before(set, low + 2 * quarter, source, target)
-            + comes_before(set, low + 3 * quarter, source, target))
+    let quarter = quarter_of(left);
+    let last = low + quarter - 1;
+    counted(comes_before::<ENDS>(set, last, source, target), quarter)
+        + counted(
+            comes_before::<ENDS>(set, last + quarter, source, target),
+            quarter,
+        )
+        + counted(
+            comes_before::<ENDS>(set, last + 2 * quarter, source, target),
+            quarter,
+        )
+}
+
+// How many links come before the one sought, where those below `low` do and those past `left` from there on do not.
+fn search<const ENDS: usize>(
+    set: &[u16],
+    low: usize,
+    left: usize,
+    source: u16,
+    target: u16,
+) -> usize
+    requires room { 2 * (low + left) ≤ length set.now }
+    ensures { (m : ℕ) → Sorted set.now m → Narrowed (earlier ENDS set.now source target) m low left
+        → Parted (earlier ENDS set.now source target) m result }
+{
+    let mut low = low;
+    let mut left = left;
+    while 0 < left {
+        low += passed::<ENDS>(set, low, left, source, target);
+        left -= told(left);
+    }
+    low
 }
 
 // The place of a link in a set of `size` links: how many of them come before it.
@@ -52,13 +126,51 @@ pub fn place(set: &[u16], size: usize, source: u16, target: u16) -> usize
     requires sorted { Sorted set.now size }
     ensures { Place set.now size source target result }
 {
-    let mut low = 0;
-    let mut left = size;
-    while 0 < left {
-        low += passed(set, low, left, source, target);
-        left -= told(left);
+    search::<BOTH>(set, 0, size, source, target)
+}
+
+// Where the links of a source begin, by a place among them: at most three before it, or if the fourth has the source too, which is seldom,
+// at most 64.
+fn begin_of(set: &[u16], place: usize, source: u16) -> usize
+    requires room { 2 * place ≤ length set.now }
+    ensures { (m : ℕ) → Sorted set.now m → degree_of set.now m source ≤ most_of_source → (v : ℕ) → Place set.now m source v place
+        → Parted (earlier 1 set.now source 0) m result }
+{
+    if 4 <= place && set[2 * (place - 4)] == source {
+        let low = place.saturating_sub(MOST_OF_SOURCE);
+        return search::<SOURCE>(set, low, place - 4 - low, source, 0);
     }
-    low
+    let low = place.saturating_sub(3);
+    search::<SOURCE>(set, low, place - low, source, 0)
+}
+
+// And where they end.
+fn end_of(set: &[u16], size: usize, place: usize, source: u16) -> usize
+    requires room { 2 * size ≤ length set.now }
+    requires place_in { place ≤ size }
+    requires fits { source < 65535 }
+    ensures { Sorted set.now size → degree_of set.now size source ≤ most_of_source → (v : ℕ) → Place set.now size source v place
+        → Parted (earlier 1 set.now (source + 1) 0) size result }
+{
+    let next = source + 1;
+    if place + 4 <= size && set[2 * (place + 3)] == source {
+        let low = place + 4;
+        return search::<SOURCE>(set, low, size.min(place + MOST_OF_SOURCE) - low, next, 0);
+    }
+    search::<SOURCE>(set, place, size.min(place + 3) - place, next, 0)
+}
+
+// How many links of a set have a source, by a place among them: on either side of it their end is sought, in few links.
+pub fn degree(set: &[u16], size: usize, place: usize, source: u16) -> usize
+    requires room { 2 * size ≤ length set.now }
+    requires sorted { Sorted set.now size }
+    requires fits { source < 65535 }
+    requires among { (v : ℕ) × Place set.now size source v place }
+    requires few { degree_of set.now size source ≤ most_of_source }
+    ensures { result ≡ degree_of set.now size source }
+{
+    let begin = begin_of(set, place, source);
+    end_of(set, size, place, source) - begin
 }
 
 // Whether a link is at a place.

@@ -10,6 +10,10 @@ const ENTRY: usize = journal_length(1) - journal_length(0);
 /// the rules do not allow is refused when it is followed, and skipped. [`Journal::after`] has the network after so many entries, and why
 /// which of these were refused.
 ///
+/// Each member is due four vouches given ([`DUE`](crate::DUE)) and may have up to 64 ([`GIVEN`](crate::GIVEN)). The number of links present
+/// and the total of what all members lack to four, live and due, together never exceed 8,192 ([`LINKS`](crate::LINKS)): so each member has
+/// a place for four vouches, whatever the others entered. Returning to a named state restores both.
+///
 /// ```
 /// use cogsplice::{EntryRefusal, Journal, Name};
 /// # fn main() -> Result<(), cogsplice::Refusal> {
@@ -108,13 +112,43 @@ impl Journal {
         self.len() == 0
     }
 
-    /// Enters the addition of a link. It is refused by 10 where a member is not below n, by 16 where the link is present, and by 5 where
-    /// 8,192 others are.
+    /// Enters the addition of a link. It is refused by 10 where a member is not below n, by 16 where the link is present, by 19 where the
+    /// voucher has given 64, and by 20 where it has given four or more and live + due is 8,192. Of a voucher that has given fewer than four
+    /// it is never refused by 19 or 20.
+    ///
+    /// ```
+    /// use cogsplice::{EntryRefusal, Journal, DUE, GIVEN, MEMBERS};
+    /// # fn main() -> Result<(), cogsplice::Refusal> {
+    /// // 2,048 members are due all 8,192 places: none can give a fifth vouch.
+    /// let mut journal = Journal::new(MEMBERS)?;
+    /// for vouched in 0..=DUE {
+    ///     journal.add(7, vouched);
+    /// }
+    /// assert_eq!(journal.after_all().refusals[DUE], Some(EntryRefusal::Place)); // 20
+    /// // Of 129 members all but the last try to give 65. Four places are kept for the last, and so member 127 finds none for a 61st vouch.
+    /// let mut journal = Journal::new(129)?;
+    /// for voucher in 0..128 {
+    ///     for vouched in 0..=GIVEN {
+    ///         journal.add(voucher, vouched);
+    ///     }
+    /// }
+    /// for vouched in 0..DUE {
+    ///     journal.add(128, vouched);
+    /// }
+    /// let refusals = journal.after_all().refusals;
+    /// assert_eq!(refusals[GIVEN], Some(EntryRefusal::Given)); // 19, the 65th of member 0
+    /// assert_eq!(refusals[127 * 65 + 60], Some(EntryRefusal::Place)); // 20, the 61st of member 127
+    /// assert!(refusals.ends_with(&[None; DUE])); // the first four of member 128
+    /// # Ok(())
+    /// # }
+    /// ```
     pub fn add(&mut self, voucher: usize, vouched: usize) -> &mut Journal {
         self.enter(Kind::Add, voucher, vouched)
     }
 
-    /// Enters the withdrawal of a link. It is refused by 10 where a member is not below n, and by 17 where the link is absent.
+    /// Enters the withdrawal of a link. It is refused by 10 where a member is not below n, and by 17 where the link is absent. The link's
+    /// place is used again: its voucher can add one next, and what a member with more than four gives back is there for everyone who has
+    /// not given 64.
     pub fn withdraw(&mut self, voucher: usize, vouched: usize) -> &mut Journal {
         self.enter(Kind::Withdraw, voucher, vouched)
     }

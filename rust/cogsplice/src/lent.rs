@@ -290,7 +290,7 @@ pub fn equal_findings(x: usize, y: usize, a: usize, b: usize) -> bool {
 
 /// Follows the first `asked` entries of a journal, all where there are fewer. Writes the file of the links then present, ascending by
 /// voucher, then vouched, to `out`, and to `numbers` one byte for each entry followed: 0 where it did what it says, else the number that
-/// refuses it, 18, 10, 16, 17 or 5. `out` needs [`JOURNAL_OUT`](crate::JOURNAL_OUT) bytes, `work`
+/// refuses it, the first that applies of 18, 10, 16, 17, 19 and 20. `out` needs [`JOURNAL_OUT`](crate::JOURNAL_OUT) bytes, `work`
 /// [`JOURNAL_WORK`](crate::JOURNAL_WORK) entries.
 #[rustfmt::skip]
 pub fn journal(journal: &[u8], asked: usize, out: &mut [u8], numbers: &mut [u8], work: &mut [u16]) -> WriteNumbers {

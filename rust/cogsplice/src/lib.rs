@@ -51,6 +51,12 @@ pub const MEMBERS: usize = 2048;
 /// The most links of a network.
 pub const LINKS: usize = 8192;
 
+/// The most vouches that a member may have given in a journal.
+pub const GIVEN: usize = 64;
+
+/// The vouches due to each member of a journal.
+pub const DUE: usize = 4;
+
 /// The length in bytes of a file of `m` links.
 pub const fn file_length(m: usize) -> usize {
     9 + 4 * m

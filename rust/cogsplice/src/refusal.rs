@@ -114,7 +114,8 @@ impl fmt::Display for Refusal {
 impl Error for Refusal {}
 
 /// Why an entry of a journal was refused, and skipped: where more than one number applies the first in the order of the tests, 18, 10, 16,
-/// 17, 5.
+/// 17, 19, 20. The last two are only for an addition whose voucher has given four or more. Live is the number of links present, due the
+/// total of what all members lack to four.
 ///
 /// ```
 /// use cogsplice::{EntryRefusal, Journal};
@@ -135,14 +136,16 @@ pub enum EntryRefusal {
     Present,
     /// 17: the link that it withdraws is absent.
     Absent,
-    /// 5: it adds to 8,192 links.
-    Links,
+    /// 19: the voucher of the link that it adds has given 64.
+    Given,
+    /// 20: the voucher of the link that it adds has given four or more, and live + due is 8,192.
+    Place,
 }
 
 impl EntryRefusal {
-    const ALL: [EntryRefusal; 5] = {
+    const ALL: [EntryRefusal; 6] = {
         use EntryRefusal::*;
-        [Entry, Member, Present, Absent, Links]
+        [Entry, Member, Present, Absent, Given, Place]
     };
 
     /// The refusal of an entry's number, where it is one.
@@ -161,11 +164,12 @@ impl EntryRefusal {
             EntryRefusal::Member => (10, "a member is not below n"),
             EntryRefusal::Present => (16, "the link that is added is present"),
             EntryRefusal::Absent => (17, "the link that is withdrawn is absent"),
-            EntryRefusal::Links => (5, "8192 links are present"),
+            EntryRefusal::Given => (19, "the voucher has given 64"),
+            EntryRefusal::Place => (20, "the voucher has given four or more, and every place is taken or due to others"),
         }
     }
 
-    /// The refusal's number: 5, 10 or 16 to 18.
+    /// The refusal's number: 10 or 16 to 20.
     pub fn number(self) -> u16 {
         self.told().0
     }

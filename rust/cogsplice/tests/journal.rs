@@ -1,5 +1,6 @@
 //! A journal's entries one by one: the links that they leave and the number that refuses each.
-use cogsplice::{EntryRefusal, Journal, Name, Network, Refusal, LINKS};
+use cogsplice::{EntryRefusal, Journal, Name, Network, Refusal, DUE, GIVEN, LINKS, MEMBERS};
+use std::ops::Range;
 
 /// The numbers of all entries.
 fn numbers(journal: &Journal) -> Vec<u16> {
@@ -41,18 +42,91 @@ fn named_states_hold_until_they_are_set_again() {
     assert_eq!(numbers(&journal), [0; 12]);
 }
 
+/// Enters that each of these members vouches for the members below `end`.
+fn add_below(journal: &mut Journal, vouchers: Range<usize>, end: usize) {
+    for voucher in vouchers {
+        (0..end).for_each(|vouched| {
+            journal.add(voucher, vouched);
+        });
+    }
+}
+
 #[test]
-fn a_full_network_takes_no_other_link() {
-    let mut journal = Journal::new(128).unwrap();
-    let links = |vouchers| (0..vouchers).flat_map(|voucher| (0..128).map(move |vouched| (voucher, vouched)));
-    links(64).for_each(|(voucher, vouched)| {
-        journal.add(voucher, vouched);
-    });
-    // 16 comes before 5, and a place that became free is taken again.
-    journal.add(64, 0).add(0, 0).withdraw(0, 0).add(64, 0).add(0, 0);
-    assert_eq!(numbers(&journal)[LINKS..], [5, 16, 0, 0, 5]);
-    let network = journal.after_all().network;
-    assert!(network.links().eq(links(64).skip(1).chain([(64, 0)])));
+fn over_2048_members_none_gives_a_fifth() {
+    let mut journal = Journal::new(MEMBERS).unwrap();
+    // Before anyone else has given one, and when all have given four.
+    add_below(&mut journal, 0..1, DUE + 1);
+    add_below(&mut journal, 1..MEMBERS, DUE);
+    journal.add(0, DUE).add(MEMBERS - 1, DUE);
+    let mut expected = [0; LINKS + 3];
+    for entry in [DUE, LINKS + 1, LINKS + 2] {
+        expected[entry] = 20;
+    }
+    assert_eq!(numbers(&journal), expected);
+    assert_eq!(journal.after_all().network.links().count(), LINKS);
+    // 16 comes before 20. The place that member 0 gives back is due to it, and to nobody else.
+    journal.add(1, 0).withdraw(0, 0).add(1, DUE).add(0, DUE).add(0, 0);
+    assert_eq!(numbers(&journal)[expected.len()..], [16, 0, 20, 0, 20]);
+}
+
+/// 129 members: 127 have given 64, member 127 as many as it found places for, and member 128 none.
+fn busy_members() -> Journal {
+    let mut journal = Journal::new(129).unwrap();
+    add_below(&mut journal, 0..127, GIVEN);
+    add_below(&mut journal, 127..128, GIVEN - DUE);
+    journal
+}
+
+#[test]
+fn a_member_with_fewer_than_four_has_a_place_whatever_the_others_entered() {
+    let mut journal = busy_members();
+    let busy = journal.len();
+    assert_eq!(busy, LINKS - DUE);
+    // 10 and 16 come before 19, and 19 before 20.
+    journal.add(0, GIVEN).add(127, GIVEN).add(0, 0).add(0, 129);
+    add_below(&mut journal, 128..129, DUE + 1);
+    let mut expected = vec![0; busy];
+    expected.extend([19, 20, 16, 10, 0, 0, 0, 0, 20]);
+    assert_eq!(numbers(&journal), expected);
+    assert_eq!(journal.after_all().network.links().count(), LINKS);
+}
+
+#[test]
+fn a_withdrawn_place_is_used_again() {
+    let mut journal = busy_members();
+    let busy = journal.len();
+    // By its own voucher; what a member with more than four gives back by another too, and then it is gone.
+    journal.withdraw(0, 0).add(0, GIVEN).add(0, 0);
+    journal.withdraw(0, GIVEN).add(127, GIVEN).add(0, GIVEN);
+    // What member 128 gives back is due to it.
+    journal.add(128, 0).withdraw(128, 0).add(0, GIVEN).add(128, 1);
+    assert_eq!(numbers(&journal)[busy..], [0, 0, 19, 0, 0, 20, 0, 0, 20, 0]);
+}
+
+#[test]
+fn returning_to_a_named_state_restores_what_is_given_live_and_due() {
+    let mut journal = Journal::new(129).unwrap();
+    journal.set(Name::Zero);
+    add_below(&mut journal, 0..127, GIVEN);
+    add_below(&mut journal, 127..128, GIVEN - DUE);
+    journal.set(Name::One);
+    let named = journal.len();
+    // Of the state without links everyone has places; of the other one only member 128.
+    journal.return_to(Name::Zero).add(0, GIVEN).add(127, GIVEN).return_to(Name::One);
+    journal.add(0, GIVEN).add(127, GIVEN).add(128, 0).add(128, 1);
+    journal.withdraw(0, 0).withdraw(1, 0).return_to(Name::One);
+    journal.add(0, GIVEN).add(127, GIVEN);
+    let expected = [0, 0, 0, 0, 19, 20, 0, 0, 0, 0, 0, 19, 20];
+    assert_eq!(numbers(&journal)[named..], expected);
+}
+
+#[test]
+fn fewer_than_four_members_have_a_place_for_every_link() {
+    for n in 0..4 {
+        let mut journal = Journal::new(n).unwrap();
+        add_below(&mut journal, 0..n, n);
+        assert_eq!(numbers(&journal), vec![0; n * n]);
+    }
 }
 
 #[test]

@@ -1,14 +1,19 @@
-//! Findings, layers, pairs of the harmonic measure and refusals read as they are printed: every sample, against the texts beside it, and a
-//! journal's findings after some of its entries. Old files are read as the files beside them.
+//! Findings, layers, pairs of the harmonic measure and refusals read as they are printed: every sample, against the texts beside it, and
+//! the journals' findings after some of their entries. Old files are read as the files beside them.
 use cogsplice::{Journal, Network};
 use std::fs;
 use std::path::{Path, PathBuf};
 
-/// The network files of the samples.
-fn samples() -> impl Iterator<Item = PathBuf> {
+/// The samples of this kind.
+fn samples_of(kind: &'static str) -> impl Iterator<Item = PathBuf> {
     let folder = Path::new(env!("CARGO_MANIFEST_DIR")).join("../../samples");
     let files = fs::read_dir(folder).unwrap().map(|entry| entry.unwrap().path());
-    files.filter(|path| path.extension().map_or(false, |kind| kind == "vch"))
+    files.filter(move |path| path.extension().map_or(false, |other| other == kind))
+}
+
+/// The network files of the samples.
+fn samples() -> impl Iterator<Item = PathBuf> {
+    samples_of("vch")
 }
 
 /// What is said of each of the networks, or its refusal, is the text of this kind beside it.
@@ -73,24 +78,32 @@ fn the_first_layer_is_the_finding() {
     });
 }
 
-/// The journal in which a ring forms: its findings after some entries, and the entries that are refused.
-#[test]
-fn a_journal_reads_as_it_is_printed() {
-    let beside = |ending: &str| {
-        let file = format!("../../samples/ring-forms{ending}");
-        Path::new(env!("CARGO_MANIFEST_DIR")).join(file)
-    };
-    let journal = Journal::read(fs::read(beside(".vjn")).unwrap()).unwrap();
+/// The findings of a journal after some of its entries, and the entries that are refused.
+fn assert_journal_read(path: &Path) {
+    let journal = Journal::read(fs::read(path).unwrap()).unwrap();
+    let name = path.with_extension("");
     let mut compared = 0;
     for entries in 0..=journal.len() {
-        if let Ok(text) = fs::read_to_string(beside(&format!("-{entries}.txt"))) {
+        if let Ok(text) = fs::read_to_string(format!("{}-{entries}.txt", name.display())) {
             let finding = journal.after(entries).network.finding();
-            assert_eq!(format!("{finding}\n"), text, "after {entries}");
+            assert_eq!(format!("{finding}\n"), text, "{} after {entries}", path.display());
             compared += 1;
         }
     }
     assert!(compared > 0);
     let refusals = journal.after_all().refusals.into_iter().enumerate();
     let refused = refusals.filter_map(|(entry, refusal)| refusal.map(|refusal| format!("entry {entry} {refusal}\n")));
-    assert_eq!(refused.collect::<String>(), fs::read_to_string(beside(".numbers")).unwrap());
+    assert_eq!(
+        refused.collect::<String>(),
+        fs::read_to_string(path.with_extension("numbers")).unwrap(),
+        "{}",
+        path.display()
+    );
+}
+
+#[test]
+fn journals_read_as_they_are_printed() {
+    let journals: Vec<PathBuf> = samples_of("vjn").collect();
+    assert!(!journals.is_empty());
+    journals.iter().for_each(|path| assert_journal_read(path));
 }

@@ -11,6 +11,12 @@ pub const JOURNAL_OUT: usize = 32_777;
 /// The length of the work table.
 pub const JOURNAL_WORK: usize = 81_920;
 
+/// The most vouches that a member may have given.
+pub const GIVEN: usize = 64;
+
+/// The vouches due to each member.
+pub const DUE: usize = 4;
+
 /// The mark, the version and n come before the entries.
 const HEAD: usize = 7;
 
@@ -22,16 +28,71 @@ const WITHDRAW: u8 = 1;
 const SET: u8 = 2;
 const RETURN: u8 = 3;
 
-/// What the rules speak of: the members, the links present, and what each named state was set to last, if it ever was.
-struct Month {
-    n: usize,
-    links: BTreeSet<Link>,
-    named: [Option<BTreeSet<Link>>; 4],
+/// A set of links: for each member, those that it vouches for.
+type Links = Vec<BTreeSet<usize>>;
+
+/// What the rules speak of: the links present, and what each named state was set to last, if it ever was.
+pub struct Month {
+    links: Links,
+    named: [Option<Links>; 4],
 }
 
 impl Month {
+    /// A month without links, in which no state is set.
+    pub fn new(n: usize) -> Month {
+        Month {
+            links: vec![BTreeSet::new(); n],
+            named: Default::default(),
+        }
+    }
+
+    /// n.
+    fn members(&self) -> usize {
+        self.links.len()
+    }
+
+    /// Whether both are members.
+    pub fn has_members(&self, link: Link) -> bool {
+        link.0 < self.members() && link.1 < self.members()
+    }
+
+    /// Whether a link is present.
+    pub fn has(&self, link: Link) -> bool {
+        self.has_members(link) && self.links[link.0].contains(&link.1)
+    }
+
+    /// How many links present have this voucher: none, where it is no member.
+    pub fn given(&self, member: usize) -> usize {
+        self.links.get(member).map_or(0, BTreeSet::len)
+    }
+
+    /// The most that a member has given.
+    pub fn most_given(&self) -> usize {
+        let given = (0..self.members()).map(|member| self.given(member));
+        given.max().unwrap_or(0)
+    }
+
+    /// How many links are present.
+    pub fn live(&self) -> usize {
+        (0..self.members()).map(|member| self.given(member)).sum()
+    }
+
+    /// The total of what members lack to four.
+    pub fn due(&self) -> usize {
+        let lacks = |member| DUE.saturating_sub(self.given(member));
+        (0..self.members()).map(lacks).sum()
+    }
+
+    /// The links present, ascending by voucher, then vouched.
+    pub fn links(&self) -> Vec<Link> {
+        let of_voucher = |(a, vouched): (usize, &BTreeSet<usize>)| -> Vec<Link> {
+            vouched.iter().map(|&b| (a, b)).collect()
+        };
+        self.links.iter().enumerate().flat_map(of_voucher).collect()
+    }
+
     /// 18: a kind or name that is not there, a last number that is not 0, or a return to a state never set.
-    fn is_malformed(&self, kind: u8, (name, last): Link) -> bool {
+    pub fn is_malformed(&self, kind: u8, (name, last): Link) -> bool {
         let no_name = name > 3 || last != 0;
         match kind {
             ADD | WITHDRAW => false,
@@ -45,21 +106,24 @@ impl Month {
     /// before it is looked for.
     fn number_of(&self, kind: u8, link: Link) -> u8 {
         let is_link = kind == ADD || kind == WITHDRAW;
-        let is_present = self.links.contains(&link);
+        let given = self.given(link.0);
         let tests = [
             (18, self.is_malformed(kind, link)),
-            (10, is_link && (link.0 >= self.n || link.1 >= self.n)),
-            (16, kind == ADD && is_present),
-            (17, kind == WITHDRAW && !is_present),
-            (5, kind == ADD && self.links.len() == LINKS),
+            (10, is_link && !self.has_members(link)),
+            (16, kind == ADD && self.has(link)),
+            (17, kind == WITHDRAW && !self.has(link)),
+            (19, kind == ADD && given == GIVEN),
+            (
+                20,
+                kind == ADD && given >= DUE && self.live() + self.due() == LINKS,
+            ),
         ];
         let first = tests.iter().find(|(_, applies)| *applies);
         first.map_or(0, |&(number, _)| number)
     }
 
     /// Follows an entry, which is skipped where it has a number; that number, or 0.
-    fn follow(&mut self, entry: &[u8]) -> u8 {
-        let (kind, link) = (entry[0], (number_at(entry, 1), number_at(entry, 3)));
+    fn follow(&mut self, kind: u8, link: Link) -> u8 {
         let number = self.number_of(kind, link);
         if number == 0 {
             self.step(kind, link);
@@ -67,20 +131,25 @@ impl Month {
         number
     }
 
-    /// A named state holds until it is set again: a return leaves all four as they are.
-    fn step(&mut self, kind: u8, link: Link) {
-        let name = link.0;
+    /// What an entry without a number does. A named state holds until it is set again: a return leaves all four as they are.
+    pub fn step(&mut self, kind: u8, (first, second): Link) {
         match kind {
             ADD => {
-                self.links.insert(link);
+                self.links[first].insert(second);
             }
             WITHDRAW => {
-                self.links.remove(&link);
+                self.links[first].remove(&second);
             }
-            SET => self.named[name] = Some(self.links.clone()),
-            _ => self.links = self.named[name].clone().unwrap_or_default(),
+            SET => self.named[first] = Some(self.links.clone()),
+            _ => self.links = self.named[first].clone().unwrap_or_default(),
         }
     }
+}
+
+/// The entries of a journal: the kind and the two numbers of each.
+pub fn entries(journal: &[u8]) -> impl Iterator<Item = (u8, Link)> + '_ {
+    let entries = journal[HEAD..].chunks(ENTRY);
+    entries.map(|entry| (entry[0], (number_at(entry, 1), number_at(entry, 3))))
 }
 
 /// The journal call: follows the first entries, as many as asked or all, and writes the file of the links present and the number of each
@@ -103,31 +172,26 @@ fn try_journal(
     work: usize,
 ) -> Result<WriteNumbers, Refusal> {
     refuse(&[(1, journal.len() < HEAD)])?;
-    let (head, entries) = journal.split_at(HEAD);
-    let n = number_at(head, 5);
-    let followed = asked.min(entries.len() / ENTRY);
+    let n = number_at(journal, 5);
+    let length = journal.len() - HEAD;
+    let followed = asked.min(length / ENTRY);
     let short = too_short(&[
         (out.len(), JOURNAL_OUT),
         (numbers.len(), followed),
         (work, JOURNAL_WORK),
     ]);
     refuse(&[
-        (2, head[0..3] != *b"VJN"),
-        (3, number_at(head, 3) != 1),
+        (2, journal[0..3] != *b"VJN"),
+        (3, number_at(journal, 3) != 1),
         (4, n > MEMBERS),
-        (6, entries.len() % ENTRY != 0),
+        (6, length % ENTRY != 0),
         (9, short),
     ])?;
-    let mut month = Month {
-        n,
-        links: BTreeSet::new(),
-        named: Default::default(),
-    };
-    for (number, entry) in numbers.iter_mut().zip(entries.chunks(ENTRY)).take(followed) {
-        *number = month.follow(entry);
+    let mut month = Month::new(n);
+    for (number, (kind, link)) in numbers.iter_mut().zip(entries(journal)).take(followed) {
+        *number = month.follow(kind, link);
     }
-    // A set of pairs ascends by voucher, then vouched.
-    let links: Vec<Link> = month.links.into_iter().collect();
+    let links = month.links();
     let m = links.len();
     out[..file_length(m)].copy_from_slice(&encode(&Network { n, links }));
     Ok(WriteNumbers {

@@ -18,6 +18,6 @@ pub use file::{check, file_length, order, read, read_any_order, write, LINKS, ME
 pub use groups::count;
 pub use harmonic::harmonic;
 pub use index::{index, row, row_refusal};
-pub use journal::{journal, JOURNAL_OUT, JOURNAL_WORK};
+pub use journal::{entries, journal, Month, DUE, GIVEN, JOURNAL_OUT, JOURNAL_WORK};
 pub use layers::layers;
 pub use report::{convert, report, INPUT};

@@ -1,4 +1,4 @@
-//! Writes the networks and the journal of the folder `samples`, and the conversions of networks that are not in order, into the folder that
+//! Writes the networks and the journals of the folder `samples`, and the conversions of networks that are not in order, into the folder that
 //! is named:
 //! `cargo run --manifest-path tests/networks/Cargo.toml samples`.
 use networks::{
@@ -81,6 +81,24 @@ const RING_FORMS: [Entry; 22] = [
     return_to(0),
 ];
 
+/// A month of 2,033 members. Four are due to each, which leaves 60 places for anyone: a busy member takes them all beside its own four, and
+/// is refused one more vouch, as is another member its fifth. Withdrawn places are used again, three members enter the four that are due to
+/// them, and the month returns to the state in which the two were refused.
+fn busy_member() -> Vec<u8> {
+    let enter = |vouchers: &[usize], vouched: &[usize]| {
+        let links = all_links(vouchers, vouched);
+        links.into_iter().map(add)
+    };
+    let many: Vec<usize> = (1..=65).collect();
+    let mut entries: Vec<Entry> = enter(&[0], &many).collect();
+    entries.extend(enter(&[70], &[80, 81, 82, 83, 84]));
+    entries.extend([set(0), withdraw((0, 1)), add((70, 84)), add((0, 65))]);
+    entries.extend([withdraw((70, 80)), add((0, 65)), add((70, 80))]);
+    entries.extend(enter(&[71, 72, 73], &[80, 81, 82, 83]));
+    entries.extend([return_to(0), add((0, 65)), add((70, 84))]);
+    encode_journal(2033, &entries)
+}
+
 /// Network W with links 2 and 3 exchanged.
 fn exchanged() -> Vec<u8> {
     let mut network = Network::w();
@@ -126,4 +144,5 @@ fn main() {
     write("damaged-order", &exchanged());
     write_as("ordered", "damaged-order", &w);
     write_as("vjn", "ring-forms", &encode_journal(12, &RING_FORMS));
+    write_as("vjn", "busy-member", &busy_member());
 }

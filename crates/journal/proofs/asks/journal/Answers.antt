@@ -28,5 +28,5 @@ pub returns : goal.returns
 returns c =
     let q = ready _ _ _ _ _ c.refusal_number-number.ensures c.if-number-ne0.false in
     call.accepted c.replay.result (c.refusal_number-number.ensures ∙ ap plain c.if-number-ne0.false) refl
-    (journal-told c.args.journal.now c.args.asked c.args.out.now _ c.args.numbers.now _ c.args.work.now c.replay.new.work c.count_of-count.ensures c.replay.ensures.present c.replay.ensures.numbered
+    (journal-told c.args.journal.now c.args.asked c.args.out.now _ c.args.numbers.now _ c.args.work.now c.replay.new.work q.header.order_most c.count_of-count.ensures c.replay.ensures.present c.replay.ensures.numbered
     q.work (c.replay.ensures.work_length ∙ length-take-le 81920 c.args.work.now q.work))

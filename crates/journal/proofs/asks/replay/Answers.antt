@@ -2,10 +2,11 @@ use Rattle.std.proofs.Common.{ap, ◌∙◌, arith}
 use Rattle.std.proofs.lemmas.List.Edits.{sets}
 use Rattle.journal.specs.Listed.{listed}
 use Rattle.journal.proofs.Files.{set-written}
+use Rattle.journal.proofs.Turning.{full-most}
 use Rattle.journal.proofs.asks.replay.Goals as goal
 
 pub returns-clause-present : goal.returns-clause-present
 returns-clause-present c =
-    let set = c.run-tally.ensures.tabled.present in
-    set-written _ _ _ _ c.requires.few set _ _ (omega (arith, c.requires.room, set.most))
-    (c.put_set.ensures ∙ ap (λ n. sets c.args.out.now 0 (listed n c.run-tally.new.work c.run-tally.result.live)) c.u16_at.ensures.0)
+    let tabled = c.run-tally.ensures.tabled in
+    set-written _ _ _ _ c.requires.few tabled.sound.present tabled.present _ _ (omega (arith, c.requires.room, full-most _ _ _ c.run-tally.new.work _ tabled))
+    (c.put_set.ensures ∙ ap (λ n. sets c.args.out.now 0 (listed n c.run-tally.new.work c.run-tally.result.present.live)) c.u16_at.ensures.0)

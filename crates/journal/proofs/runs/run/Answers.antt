@@ -1,4 +1,4 @@
-use Rattle.std.proofs.Common.{refl, ◌∙◌, arith}
+use Rattle.std.proofs.Common.{refl, ◌≡◌, ◌∙◌, arith}
 use Rattle.journal.specs.Journal.{after}
 use Rattle.journal.proofs.Running.{name-at, tabled-begin, tabled-next, numbers-none, numbers-next}
 use Rattle.journal.proofs.runs.run.Goals as goal
@@ -6,7 +6,7 @@ use Rattle.journal.proofs.runs.run.Goals as goal
 pub loop-i-init : goal.loop-i-init
 loop-i-init c =
     record {
-      tabled = tabled-begin c.args.journal.now c.args.work.now c.requires.room.0;
+      tabled = rw (c.new-tally.ensures, c.u16_at-order.ensures.0) (tabled-begin c.args.journal.now c.args.work.now c.requires.few c.requires.room.0);
       numbered = numbers-none c.args.journal.now c.args.results.now;
       work_length = refl;
     }
@@ -24,3 +24,6 @@ loop-i-preserved c =
       numbered = numbers-next j c.args.results.now c.loop-i.results c.loop-i.i _ c.loop-i.invariant.numbered turned.number_is (omega (arith, c.requires.room));
       work_length = c.follow.auto.work ∙ c.loop-i.invariant.work_length;
     }
+
+pub returns-clause-tabled : goal.returns-clause-tabled
+returns-clause-tabled c = let end : c.loop-i.i ≡ c.args.count = omega (arith, c.loop-i.auto.i-end, c.loop-i-test.false) in rw (← end) c.loop-i.invariant.tabled

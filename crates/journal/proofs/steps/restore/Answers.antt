@@ -6,4 +6,4 @@ pub returns-in_default : goal.returns-in_default
 returns-in_default c n s h = turned-unset n s _ _ h _ c.requires.name_in c.in_default.is
 
 pub returns : goal.returns
-returns c n s h = turned-restore n s _ _ h _ c.requires.name_in _ _ c.in-Some.is c.copy_back.ensures
+returns c n s h = rw c.restore.ensures (turned-restore n s _ _ h _ c.requires.name_in _ c.in-Some.is _ c.copy_back.ensures)

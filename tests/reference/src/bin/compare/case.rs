@@ -14,7 +14,7 @@ pub struct Tally {
     /// For each refusal number, how many answers had it; for 0, how many were accepted.
     pub refusals: [u64; 16],
     /// For each number of a journal's entry, how many followed entries had it; for 0, how many were accepted.
-    pub entries: [u64; 19],
+    pub entries: [u64; 21],
 }
 
 impl Tally {

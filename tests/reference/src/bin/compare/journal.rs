@@ -2,6 +2,8 @@
 mod examples;
 mod faults;
 mod kinds;
+mod places;
+mod promises;
 mod sequences;
 
 pub use examples::examples;
@@ -73,13 +75,18 @@ impl Lent {
     }
 }
 
+/// n as the journal's bytes tell it.
+fn members(case: &Case) -> usize {
+    case.file[5] as usize + 256 * case.file[6] as usize
+}
+
 /// The entries of the case's journal, were it accepted.
 fn present(case: &Case) -> usize {
     case.file.len().saturating_sub(HEAD) / ENTRY
 }
 
 /// The case's journal after many numbers of its entries, each with tables of the needed lengths, but numbers for all entries; and after one
-/// of them with tables of other lengths.
+/// of them with tables of other lengths. What is promised of every journal is promised of it.
 fn try_journal(case: &mut Case) {
     let before = case.file.clone();
     let present = present(case);
@@ -96,6 +103,7 @@ fn try_journal(case: &mut Case) {
     }
     let after = case.file.clone();
     case.compare(|| "the journal stays as it was".into(), before, after);
+    promises::promises(case);
 }
 
 /// How many entries to follow: none, some, all, and more than there are; of these some that 16, 32 or 63 bits would cut to fewer.

@@ -97,22 +97,22 @@ const PARTS: [Part; 17] = [
     },
     Part {
         name: "journals",
-        cases: 2400,
+        cases: 2750,
         run: journal::journals,
     },
     Part {
         name: "journals-full",
-        cases: 24,
+        cases: 48,
         run: journal::full,
     },
     Part {
         name: "journal-faults",
-        cases: 45,
+        cases: 55,
         run: journal::faults,
     },
     Part {
         name: "journal-sequences",
-        cases: 260,
+        cases: 441,
         run: journal::sequences,
     },
     Part {

@@ -1,14 +1,15 @@
 //! Journals worked out by hand, by the reference and by the library.
-use super::{try_journal, Lent, HEAD};
+use super::places::places;
+use super::{members, try_journal, Lent, HEAD};
 use crate::case::Case;
 use cogsplice::lent::WriteNumbers;
 use networks::{add, encode, encode_journal, return_to, set, withdraw, Entry, Link, Network};
-use reference::{JOURNAL_OUT, JOURNAL_WORK, LINKS, MEMBERS};
+use reference::{JOURNAL_OUT, JOURNAL_WORK, MEMBERS};
 
 /// An entry, its number, and the links present after it.
 type Step = (Entry, u8, &'static [Link]);
 
-/// Three members. Every number but 5, and named states that hold until they are set again.
+/// Three members. Every number but 19 and 20, and named states that hold until they are set again.
 const MONTH: [Step; 30] = [
     (add((0, 1)), 0, &[(0, 1)]),
     (add((0, 1)), 16, &[(0, 1)]),
@@ -86,21 +87,16 @@ pub fn examples(case: &mut Case) {
     }
     expect_heads(case);
     expect_lengths(case);
-    expect_full(case);
+    places(case);
 }
 
-fn set_journal(case: &mut Case, n: usize, entries: &[Entry]) {
+pub fn set_journal(case: &mut Case, n: usize, entries: &[Entry]) {
     case.kind = format!("n {n}, {} entries", entries.len());
     case.file = encode_journal(n, entries);
 }
 
-/// n as the journal's bytes tell it.
-fn members(case: &Case) -> usize {
-    case.file[5] as usize + 256 * case.file[6] as usize
-}
-
 /// The numbers of the entries followed, and the file of the links then present. All other bytes stay.
-fn expect_followed(case: &mut Case, asked: usize, numbers: &[u8], links: &[Link]) {
+pub fn expect_followed(case: &mut Case, asked: usize, numbers: &[u8], links: &[Link]) {
     let file = encode(&Network::new(members(case), links));
     let expected = WriteNumbers {
         refusal: 0,
@@ -181,45 +177,4 @@ fn expect_lengths(case: &mut Case) {
         let divides = (length - HEAD) % 5 == 0;
         expect_refusal(case, if divides { 0 } else { 6 });
     }
-}
-
-/// A journal that fills all places, and goes on: 5 is for an absent link alone, and a withdrawal makes room for one.
-fn expect_full(case: &mut Case) {
-    let link = |place: usize| (place / 4, place % 4);
-    // Those of the last voucher come first.
-    let mut entries: Vec<Entry> = (0..LINKS).rev().map(|place| add(link(place))).collect();
-    let mut numbers = vec![0; LINKS];
-    let further = [
-        (add((0, 4)), 5),
-        (add((0, 3)), 16),
-        (withdraw((0, 4)), 17),
-        (add((0, 2048)), 10),
-        (set(2), 0),
-        (withdraw((0, 3)), 0),
-        (add((0, 4)), 0),
-        (add((0, 3)), 5),
-        (return_to(2), 0),
-        (add((0, 4)), 5),
-        (withdraw((0, 3)), 0),
-        (set(3), 0),
-        (add((2047, 4)), 0),
-        (add((2047, 5)), 5),
-        (return_to(3), 0),
-    ];
-    entries.extend(further.map(|(entry, _)| entry));
-    numbers.extend(further.map(|(_, number)| number));
-    set_journal(case, MEMBERS, &entries);
-    let full: Vec<Link> = (0..LINKS).map(link).collect();
-    expect_followed(case, LINKS - 1, &numbers[..LINKS - 1], &full[1..]);
-    for followed in (LINKS..LINKS + 6).chain([LINKS + 9, LINKS + 10]) {
-        expect_followed(case, followed, &numbers[..followed], &full);
-    }
-    let mut other = full.clone();
-    other[3] = (0, 4);
-    expect_followed(case, LINKS + 8, &numbers[..LINKS + 8], &other);
-    other.remove(3);
-    expect_followed(case, usize::MAX, &numbers, &other);
-    other.push((2047, 4));
-    expect_followed(case, LINKS + 14, &numbers[..LINKS + 14], &other);
-    try_journal(case);
 }

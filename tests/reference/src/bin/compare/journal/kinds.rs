@@ -1,9 +1,9 @@
-//! Journals of many kinds, and journals that fill all places.
+//! Journals of many kinds, and journals in which all members enter what they may.
 use super::try_journal;
 use crate::case::Case;
 use crate::kinds::{disorder, network, KINDS};
 use networks::{add, encode_journal, return_to, set, withdraw, Draw, Entry, Link};
-use reference::{LINKS, MEMBERS};
+use reference::{DUE, GIVEN, LINKS, MEMBERS};
 use std::cmp::Reverse;
 
 /// Members and entries.
@@ -15,7 +15,7 @@ struct Kind {
     journal: fn(&mut Draw) -> Journal,
 }
 
-static JOURNALS: [Kind; 9] = [
+static JOURNALS: [Kind; 11] = [
     Kind {
         name: "few members",
         journal: |draw| among_few(draw, 3, 80, [4, 3, 1, 1, 1]),
@@ -51,6 +51,14 @@ static JOURNALS: [Kind; 9] = [
     Kind {
         name: "nobody",
         journal: nobody,
+    },
+    Kind {
+        name: "few places for anyone",
+        journal: few_places,
+    },
+    Kind {
+        name: "64 given",
+        journal: sixty_four,
     },
 ];
 
@@ -185,40 +193,115 @@ pub fn journals(case: &mut Case) {
     try_journal(case);
 }
 
-/// More links than there are places, each once.
-fn too_many_links(draw: &mut Draw) -> (usize, Vec<Link>) {
-    let n = draw.pick(&[91, 92, 300, MEMBERS]);
-    // The step has no divisor in common with any of these n.
-    let places = (0..91 * 91).map(|number| number * 503 % (n * n));
-    let mut links: Vec<Link> = places.map(|place| (place / n, place % n)).collect();
-    draw.shuffle(&mut links);
-    (n, links)
+/// Members of whom the first are busy and enter so many links each, and the last are small and enter four.
+struct Fight {
+    n: usize,
+    busy: usize,
+    each: usize,
+    small: usize,
 }
 
-/// Fills all places in an order of any kind, setting states on the way, then goes on at the edge.
-fn filled(draw: &mut Draw) -> Journal {
-    let (n, mut links) = too_many_links(draw);
-    match draw.below(4) {
-        0 => links[..LINKS].sort(),
-        1 => links[..LINKS].sort_by_key(|&link| Reverse(link)),
-        _ => (),
-    }
-    let mut entries = Vec::new();
-    for (place, &link) in links[..LINKS].iter().enumerate() {
-        entries.push(add(link));
-        if draw.one_in(1000) || (place + 5 > LINKS && draw.one_in(2)) {
-            entries.push(set(draw.below(4)));
+impl Fight {
+    /// Busy members who take all places that are anyone's, where they are enough for it.
+    fn for_places(draw: &mut Draw, n: usize) -> Fight {
+        let places = LINKS - DUE * n;
+        // With so many more than four each, all members take all places.
+        let least = DUE + places / n + 1;
+        let each = draw.among(least.min(GIVEN + 2), GIVEN + 2);
+        let most = each.min(GIVEN) - DUE;
+        let busy = n.min(places / most + draw.among(1, 3));
+        let small = (n - busy).max(1);
+        Fight {
+            n,
+            busy,
+            each,
+            small,
         }
     }
-    for _ in 0..draw.among(100, 400) {
-        let absent = draw.one_in(2);
-        let link = draw.pick(&links[if absent { LINKS } else { 0 }..]);
-        entries.push(entry(draw, n, link, [6, 2, 1, 1, 1]));
+
+    /// Some of the links that a member may enter, which have numbers from 0.
+    fn links(&self, member: usize, from: usize, to: usize) -> Vec<Link> {
+        let link = |place| (member, (7 * member + place) % self.n);
+        (from..to).map(link).collect()
     }
-    (n, entries)
+
+    /// What all enter, in an order of any kind.
+    fn opening(&self, draw: &mut Draw) -> Vec<Link> {
+        let busy = (0..self.busy).flat_map(|member| self.links(member, 0, self.each));
+        let small = (self.n - self.small..self.n).flat_map(|member| self.links(member, 0, DUE));
+        let mut links: Vec<Link> = busy.chain(small).collect();
+        match draw.below(5) {
+            0 => links.sort_by_key(|&link| Reverse(link)),
+            1 => links.sort_by_key(|&(voucher, vouched)| (vouched, voucher)),
+            2 => draw.shuffle(&mut links),
+            _ => (),
+        }
+        links
+    }
+
+    /// A link that a busy member or a small one might enter next.
+    fn further(&self, draw: &mut Draw) -> Link {
+        let (first, members, given) = match draw.below(3) {
+            0 => (0, self.n, DUE),
+            1 => (self.n - self.small, self.small, DUE),
+            _ => (0, self.busy, self.each),
+        };
+        let member = first + draw.below(members);
+        let links = self.links(member, given, given + 4);
+        draw.pick(&links)
+    }
+
+    /// All that they enter, with states set on the way, then so many entries at the edge.
+    fn journal(&self, draw: &mut Draw, length: usize) -> Journal {
+        let links = self.opening(draw);
+        let mut entries = Vec::new();
+        for (place, &link) in links.iter().enumerate() {
+            entries.push(add(link));
+            if draw.one_in(1000) || (place + 5 > links.len() && draw.one_in(2)) {
+                entries.push(set(draw.below(4)));
+            }
+        }
+        for _ in 0..length {
+            let link = match draw.one_in(2) {
+                true => self.further(draw),
+                false => draw.pick(&links),
+            };
+            entries.push(entry(draw, self.n, link, [6, 2, 1, 1, 1]));
+        }
+        (self.n, entries)
+    }
 }
 
-/// Journals that fill all places, and now and then one with more entries than 16 bits can count.
+/// So many members that few busy ones take all places that are anyone's, of which there may be none; of the small ones some act.
+fn few_places(draw: &mut Draw) -> Journal {
+    let n = draw.pick(&[2018, 2030, 2033, 2040, 2045, 2047, MEMBERS]);
+    let small = draw.among(1, 12);
+    let fight = Fight::for_places(draw, n);
+    let length = draw.among(0, 200);
+    Fight { small, ..fight }.journal(draw, length)
+}
+
+/// Members who have given 64 or nearly so, where places are left for all.
+fn sixty_four(draw: &mut Draw) -> Journal {
+    let fight = Fight {
+        n: draw.among(GIVEN + 2, 200),
+        busy: draw.among(1, 3),
+        each: draw.among(GIVEN - 1, GIVEN + 1),
+        small: draw.among(1, 5),
+    };
+    let length = draw.among(0, 200);
+    fight.journal(draw, length)
+}
+
+/// All members enter links, until live + due is 8,192 or, where they are too few, all have given 64.
+fn filled(draw: &mut Draw) -> Journal {
+    let n = draw.pick(&[91, 127, 128, 129, 140, 300, 1000, 2000, 2033, 2047, MEMBERS]);
+    let fight = Fight::for_places(draw, n);
+    let length = draw.among(200, 800);
+    fight.journal(draw, length)
+}
+
+/// Journals in which all members enter what they may, and now and then one with more entries than 16 bits can count.
 pub fn full(case: &mut Case) {
     if case.number % 8 == 7 {
         let members = [0, 1, 2];
