@@ -1,27 +1,30 @@
 -- What adding and withdrawing a link makes of the vouches given, of live and of due.
-use Prim.Native.Nat.{ℕ, zero, suc, ◌+◌, ◌-◌, ◌*◌, ◌<◌, ◌≤◌}
+use Prim.Native.Nat.{ℕ, ◌+◌, ◌-◌, ◌*◌, ◌<◌, ◌≤◌}
 use mathlib.Core.Bool.{Bool, true, false, not, cond, ◌&&◌, ◌||◌}
 use mathlib.Core.Logic.{◌≢◌}
 use mathlib.Core.Path.{◌≡◌, refl, sym, ap, ◌∙◌}
-use native.Mathlib.Decide.{dec_lt, dec_le}
-use native.Mathlib.Nat.{ne_of_lt}
+use native.Mathlib.Decide.{ℕ_discrete, dec_lt, dec_le}
 use native.Mathlib.Omega.{arith}
 use borrow.Author.Tests.{eq-eqb, ne_eqb, lt-ltb, le-ltb, le-leb, lt-leb}
 use lib.Dec.{ltb, leb}
 use Rattle.graph.specs.Range.{sum, if}
-use Rattle.graph.proofs.Sums.{sum-ext, sum-zero, sum-times, sum_ones, term-le-sum, below_suc}
+use Rattle.graph.proofs.Sums.{sum-ext, sum-zero, sum-times, sum_ones, term-le-sum}
+use Rattle.graph.proofs.Degrees.{without as others, sum-without}
 use Rattle.linkset.specs.Links.{Links, empty, is, with, without}
 use Rattle.linkset.proofs.Sets.{is_same}
 use Rattle.journal.specs.Journal.{given, live, due}
 
 -- two sums of which the terms differ in one place only
 sum-change : (f h : ℕ → ℕ) (n a d e : ℕ) → a < n → ((u : ℕ) → u < n → u ≢ a → f u ≡ h u) → f a + d ≡ h a + e → sum f n + d ≡ sum h n + e
-unfolding sum
-sum-change f h zero a d e l same at = absurd (omega arith)
-sum-change f h (suc n) a d e l same at =
-    below_suc l
-    (λ q. let at' : f n + d ≡ h n + e = rw q at at in omega (arith, sum-ext {f = f} {h = h} n (λ u m. same u (omega arith) (λ p. ne_of_lt m (p ∙ q)))))
-    (λ m. omega (arith, sum-change f h n a d e m (λ u k p. same u (omega arith) p) at, same n (omega arith) (λ p. ne_of_lt m (sym p))))
+sum-change f h n a d e l same at =
+    omega (
+      arith,
+      at,
+      sum-without f (λ u. true) n a l refl,
+      sum-without h (λ u. true) n a l refl,
+      sum-ext {f = λ u. if (others (λ w. true) a u) (f u)} {h = λ u. if (others (λ w. true) a u) (h u)} n
+          (λ u k. elim (ℕ_discrete u a) [ yes q ↦ rw (eq-eqb u a q) | no q ↦ rw (ne_eqb u a q) (same u k q) ]),
+    )
 
 -- sets of the same links have the same totals
 module _ (n : ℕ) (S S' : Links) (same : (u v : ℕ) → S u v ≡ S' u v) where

@@ -1,5 +1,5 @@
 -- How many links have a source: the difference of two places, each of which is sought near a place among these links.
-use Prim.Native.Nat.{ℕ, zero, suc, ◌+◌, ◌-◌, ◌<◌, ◌≤◌, min}
+use Prim.Native.Nat.{ℕ, ◌+◌, ◌-◌, ◌<◌, ◌≤◌, min}
 use mathlib.Core.Bool.{Bool, true}
 use mathlib.Core.List.{List}
 use mathlib.Core.Logic.{◌⊎◌, inl, inr, ◌≢◌}
@@ -9,36 +9,32 @@ use native.Mathlib.Omega.{arith}
 use borrow.Author.Tests.{eq-eqb, lt-ltb, le-ltb, ne_eqb}
 use lib.Dec.{eqb, ltb}
 use Rattle.graph.specs.Range.{sum, if}
-use Rattle.graph.proofs.Sums.{sum-ext, sum-add}
+use Rattle.graph.proofs.Sums.{sum-ext, sum-add, sum-after, sum-front, sum-none, sum_ones}
 use Rattle.linkset.specs.Tables.{source_at, Sorted, Parted, Place, Narrowed, earlier, degree_of, most_of_source}
 use Rattle.linkset.proofs.Places.{before-source, from-source, source-ascends}
 
 -- a test that holds of the first r of m numbers and of no other holds r times
-sum-front : (test : ℕ → Bool) (m r : ℕ) → Parted test m r → sum (λ e. if (test e) 1) m ≡ r
-unfolding sum
-sum-front test zero r p = omega (arith, p.most)
-sum-front test (suc m) r p =
-    elim (ℕ_discrete r (suc m)) [
-      | yes q ↦
-          let k : if (test m) 1 ≡ 1 = rw (p.before m (omega arith)) in
-          omega (arith, sum-front test m m (record { most = omega arith; before = λ e h. p.before e (omega arith); from = λ e h i. absurd (omega arith) }))
-      | no q ↦
-          let k : if (test m) 1 ≡ 0 = rw (p.from m (omega (arith, p.most)) (omega arith)) in
-          omega (arith, sum-front test m r (record { most = omega (arith, p.most); before = p.before; from = λ e h i. p.from e h (omega arith) }))
-    ]
+sum-parted : (test : ℕ → Bool) (m r : ℕ) → Parted test m r → sum (λ e. if (test e) 1) m ≡ r
+sum-parted test m r p =
+    let z : r + (m - r) ≡ m = omega (arith, p.most) in
+    omega (
+      arith,
+      rw z at (sum-after (λ e. if (test e) 1) r (m - r)),
+      sum-ext {f = λ e. if (test e) 1} {h = λ e. 1} r (λ e h. rw (p.before e h)),
+      sum_ones r,
+      sum-none (λ e. if (test (r + e)) 1) (m - r) (λ e h. rw (p.from (r + e) (omega arith) (omega arith))),
+    )
 
 -- one that holds of k numbers in a row below m holds k times at the least
 sum-run : (test : ℕ → Bool) (m d k : ℕ) → d + k ≤ m → ((e : ℕ) → d ≤ e → e < d + k → test e ≡ true) → k ≤ sum (λ e. if (test e) 1) m
-unfolding sum
-sum-run test zero d k l holds = omega arith
-sum-run test (suc m) d zero l holds = omega arith
-sum-run test (suc m) d (suc k) l holds =
-    elim (dec_lt (d + k) m) [
-      | yes h ↦ omega (arith, sum-run test m d (suc k) (omega arith) holds)
-      | no h ↦
-          let i : if (test m) 1 ≡ 1 = rw (holds m (omega arith) (omega arith)) in
-          omega (arith, sum-run test m d k (omega arith) (λ e f g. holds e f (omega arith)))
-    ]
+sum-run test m d k l holds =
+    omega (
+      arith,
+      sum-front (λ e. if (test e) 1) (d + k) m l,
+      sum-after (λ e. if (test e) 1) d k,
+      sum-ext {f = λ e. if (test (d + e)) 1} {h = λ e. 1} k (λ e h. rw (holds (d + e) (omega arith) (omega arith))),
+      sum_ones k,
+    )
 
 -- a number is below u + 1 where it is below u or u itself
 if-next : (t u : ℕ) → if (ltb t (u + 1)) 1 ≡ if (ltb t u) 1 + if (eqb t u) 1
@@ -57,8 +53,8 @@ module _ (l : List ℕ) (m u : ℕ) where
   degree-between p q first past =
       omega (
         arith,
-        sum-front (λ e. ltb (source_at l e) u) m p first,
-        sum-front (λ e. ltb (source_at l e) (u + 1)) m q past,
+        sum-parted (λ e. ltb (source_at l e) u) m p first,
+        sum-parted (λ e. ltb (source_at l e) (u + 1)) m q past,
         sum-ext m (λ e k. if-next (source_at l e) u),
         sum-add (λ e. if (ltb (source_at l e) u) 1) (λ e. if (eqb (source_at l e) u) 1) m,
       )
