@@ -13,7 +13,7 @@ use Rattle.network.specs.declared.Refusal.{Refusal}
 use Rattle.network.specs.File.{most_members, most_links, u16_at, link_at, graph_of, mark, marked, outside, repeat, descent, none, plain, at, old_refusal, file_refusal}
 use Rattle.network.specs.Accepted.{Header, Sound}
 use Rattle.network.proofs.Descents.{descent-is}
-use Rattle.network.proofs.Accepted.{outside-closed, some_bytes, old-accepted, accepted, old-proper, proper-none}
+use Rattle.network.proofs.Accepted.{outside-closed, some_bytes, no_bytes, old-accepted, accepted, old-proper, proper-none}
 use Rattle.network.proofs.Answers.{or_else-found, or_else-second}
 use Rattle.graph.proofs.Ranges.{first-le}
 use Rattle.checking.specs.Headers.{HeaderNumber, FallsAt}
@@ -67,6 +67,11 @@ module _ (f : List ℕ) (long : 9 ≤ length f) where
               le-ltb most_links (graph_of f).size b,
               ne_eqb (length f) (link_at (graph_of f).size) d,
             ))
+
+-- none of them for zero bytes
+pub gives-quiet : (f : List ℕ) → length f ≡ 0 → HeaderNumber f 0
+gives-quiet [] e = record { refused = λ n. absurd (n refl); accepted = λ z. no_bytes.sound.header }
+gives-quiet (b ∷ r) e = absurd (omega arith)
 
 -- then 7 and 8 are left
 pub header-rest : (f : List ℕ) → Header f

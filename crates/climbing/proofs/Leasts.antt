@@ -18,6 +18,10 @@ pub record Lowest (P : Group) (d : ℕ → ℕ) (i k : ℕ) : Type 0 where
   pub low : (p : ℕ) → p < i → P p ≡ true → k ≤ d p
   pub reached : k < 65535 → Some (λ p. P p && leb (d p) k) i
 
+-- at first none has passed
+pub lowest-begins : (P : Group) (d : ℕ → ℕ) → Lowest P d 0 65535
+lowest-begins P d = record { small = λ p l. absurd (omega arith); low = λ p l. absurd (omega arith); reached = λ l. absurd (omega arith) }
+
 -- it is the same for a test that agrees below i, and further on where no number passes
 pub lowest-skips : {P Q : Group} {d : ℕ → ℕ} {i j k : ℕ} → i ≤ j → ((p : ℕ) → p < i → P p ≡ Q p) → ((p : ℕ) → i ≤ p → p < j → Q p ≡ false)
     → Lowest P d i k → Lowest Q d j k

@@ -1,5 +1,6 @@
 pub mod Asks
 pub mod Leasts
+pub mod Longest
 pub mod Turns
 pub mod Climbing
 pub mod Levels

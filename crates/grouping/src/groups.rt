@@ -32,8 +32,8 @@ fn clear_group(n: usize, group: &mut [u8])
     requires { n ≤ length group.old }
     ensures { group.new ≡ bytes_of n nobody ++ drop n group.old }
 {
-    for u in 0..n {
-        group[u] = 0;
+    for member in 0..n {
+        group[member] = 0;
     }
 }
 

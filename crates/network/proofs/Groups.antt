@@ -2,18 +2,18 @@
 use Prim.Native.Nat.{ℕ, ◌<◌, ◌≤◌}
 use mathlib.Core.Bool.{Bool, true, false}
 use mathlib.Core.List.{List}
-use mathlib.Core.Path.{◌≡◌, refl}
+use mathlib.Core.Path.{◌≡◌, refl, ap}
 use native.Mathlib.Decide.{dec_le}
 use native.Mathlib.Omega.{arith}
 use borrow.Author.Tests.{lt-ltb, le-ltb, eq-eqb, eqb-true}
 use lib.Dec.{eqb, ltb}
-use lib.ListN.{length, get_or}
+use lib.ListN.{length, get_or, drop, length-append}
 use Rattle.graph.specs.Range.{if}
 use Rattle.graph.specs.Graph.{Graph, Group, everyone}
 use Rattle.graph.specs.Shapes.{Same}
 use Rattle.graph.proofs.Ranges.{length-table, get_or-table, first_some, first-none}
 use Rattle.network.specs.declared.Totals.{Totals}
-use Rattle.network.specs.Groups.{group_of, is_group, AllIn, Among, bytes_of}
+use Rattle.network.specs.Groups.{group_of, is_group, AllIn, Among, bytes_of, GroupIn}
 
 -- a byte of a group is at most 1: where the first that is greater is past the last, none is
 pub group-byte : (n : ℕ) (s : List ℕ) → is_group n s ≡ true → (k : ℕ) → k < n → get_or s k 0 ≤ 1
@@ -42,6 +42,10 @@ group_of-bytes_of n S u l = rw (get_or-bytes_of n S u l) (test (S u))
     test : (b : Bool) → eqb (if b 1) 1 ≡ b
     test true = refl
     test false = refl
+
+-- a table that begins with a group has a byte for each member
+pub group-long : (n : ℕ) (s : List ℕ) {s' : List ℕ} → GroupIn n s s' → n ≤ length s'
+group-long n s {s'} e = omega (arith, ap length e, length-append (bytes_of n (group_of s')) (drop n s), length-bytes_of n (group_of s'))
 
 -- what holds inside two groups, and for any with the same members too, holds among everyone where they are everyone
 pub among : (g : Graph) (a b : List ℕ) {holds : Group → Group → Type 0} → ((A B : Group) → Same g (group_of a) A → Same g (group_of b) B → holds A B)

@@ -2,3 +2,4 @@ pub mod Raises
 pub mod Gains
 pub mod Counts
 pub mod Thinning
+pub mod Wraps

@@ -5,5 +5,5 @@ mod needs;
 mod recounts;
 mod thins;
 
-pub use needs::{advance, whole};
+pub use needs::{advance, tighten, whole};
 pub use thins::whole_from;

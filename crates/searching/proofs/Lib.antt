@@ -1,4 +1,5 @@
 pub mod Starts
+pub mod Comparing
 pub mod Lines
 pub mod Turns
 pub mod Rings
