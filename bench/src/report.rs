@@ -22,7 +22,7 @@ const fn goal(call: Call, in_order: bool, most: f64) -> Goal {
     }
 }
 
-const GOALS: [Goal; 11] = [
+const GOALS: [Goal; 12] = [
     goal(Call::Check, true, 1.1),
     goal(Call::Write, true, 1.1),
     goal(Call::Order, true, 1.1),
@@ -34,6 +34,7 @@ const GOALS: [Goal; 11] = [
     goal(Call::Layers, true, 1.2),
     goal(Call::Harmonic, true, 1.2),
     goal(Call::Check, false, 1.5),
+    goal(Call::Order, false, 1.5),
 ];
 
 /// The same for the journals.
@@ -62,7 +63,8 @@ pub fn report(
 }
 
 fn how_measured() -> String {
-    let (today, machine, compiler) = (today(), machine(), compiler());
+    let (today, machine) = (today(), machine());
+    let (kit, compiler) = (version_of("rt", "version"), version_of("rustc", "--version"));
     let round = ROUND.as_millis();
     format!(
         "The proved library against the same calls in plain Rust (`bench/src/plain.rs`), in one run of
@@ -70,6 +72,7 @@ fn how_measured() -> String {
 
 - Date: {today} (UTC)
 - Machine: {machine}
+- Compiler of the library: {kit}
 - Compiler of the plain Rust: {compiler}, opt-level 3
 
 Before the calls on a network are timed, both sides must give the same answers, the same tables, and the same refusals of damaged files
@@ -269,10 +272,11 @@ fn machine() -> String {
     format!("{}, {name}, {cores} cores", std::env::consts::ARCH)
 }
 
-fn compiler() -> String {
-    let told = Command::new("rustc").arg("--version").output();
+/// What a compiler says of its version, or its name where it cannot be asked.
+fn version_of(command: &str, asked: &str) -> String {
+    let told = Command::new(command).arg(asked).output();
     let version = told.map(|told| String::from_utf8_lossy(&told.stdout).trim().to_string());
-    version.unwrap_or("rustc".to_string())
+    version.unwrap_or(command.to_string())
 }
 
 fn today() -> String {
