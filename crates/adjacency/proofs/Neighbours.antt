@@ -1,6 +1,6 @@
 -- In the tables of an index each vertex has a row, and it is the neighbours of the vertex, ascending: the places of its neighbours run
 -- from its start to the next start. A lent table may be longer than the index: what stands past it, p and q, is not looked at.
-use Prim.Native.Nat.{ℕ, suc, ◌+◌, ◌-◌, ◌<◌, ◌≤◌}
+use Prim.Native.Nat.{ℕ, ◌+◌, ◌-◌, ◌<◌, ◌≤◌}
 use mathlib.Core.List.{List, ◌++◌, append_cancel_left}
 use mathlib.Core.Path.{◌≡◌, sym, ap, ◌∙◌}
 use native.Mathlib.Numerals.{add-one}
@@ -12,18 +12,21 @@ use lib.Seq.{take-add, take-append-le}
 use Rattle.graph.specs.Graph.{Graph, reverse}
 use Rattle.graph.specs.Shapes.{Closed, Simple}
 use Rattle.graph.specs.Order.{edge_at, below, starts, rows}
-use Rattle.graph.proofs.Tests.{if-mono, if-le}
-use Rattle.graph.proofs.Sums.{sum_mono, sum_ones}
-use Rattle.graph.proofs.Ranges.{length-table, get_or-table}
+use Rattle.graph.proofs.Tests.{if-mono}
+use Rattle.graph.proofs.Sums.{sum_mono, sum-tests}
+use Rattle.graph.proofs.Ranges.{length-table}
+use Rattle.graph.proofs.Starts.{length-starts, get_or-starts}
 use Rattle.graph.proofs.Degrees.{closed-reverse}
 use Rattle.network.specs.declared.Side.{Side}
 use Rattle.network.specs.declared.Side.TheVariants.{Source, Target}
-use Rattle.network.specs.File.{graph_of, none}
+use Rattle.std.specs.Prelude.{None}
+use Rattle.network.specs.File.{graph_of}
 use Rattle.network.specs.Refusals.{row_refusal}
 use Rattle.network.specs.Sides.{seen}
 use Rattle.adjacency.specs.Calls.{RowCall, by_side}
 use Rattle.adjacency.specs.Neighbours.{neighbours}
-use Rattle.adjacency.proofs.Refusals.{Row, row-accepted}
+use Rattle.adjacency.specs.Rows.{Row}
+use Rattle.adjacency.proofs.Refusals.{row-accepted}
 use Rattle.network.specs.Accepted.{Accepted}
 use Rattle.network.proofs.Accepted.{accepted-distinct}
 use Rattle.adjacency.proofs.Places.{place, place-first, place-last, rows-to}
@@ -36,11 +39,7 @@ below-mono g u =
 
 -- and count edges
 below-le : (g : Graph) (a : ℕ) → below g.source g.size a ≤ g.size
-below-le g a = omega (arith, sum_ones g.size, sum_mono {h = λ e. 1} g.size (λ e m. if-le (ltb (g.source e) a) 1))
-
--- the starts table has an entry for each vertex and one past the last
-length-starts : (g : Graph) → length (starts g) ≡ suc g.order
-length-starts g = length-table (below g.source g.size) (suc g.order)
+below-le g a = sum-tests (λ e. ltb (g.source e) a) g.size
 
 -- the rows table has one for each edge
 length-rows : (g : Graph) → length (rows g) ≡ g.size
@@ -49,8 +48,7 @@ length-rows g = length-table (λ i. g.target (edge_at g i)) g.size
 -- entry a of the starts
 start_of : (g : Graph) (p : List ℕ) (a : ℕ) → a ≤ g.order → get_or (starts g ++ p) a 0 ≡ below g.source g.size a
 start_of g p a h =
-    get_or-append (starts g) p 0 a (omega (arith, length-starts g))
-    ∙ get_or-table (below g.source g.size) (suc g.order) a (omega arith)
+    get_or-append (starts g) p 0 a (omega (arith, length-starts g)) ∙ get_or-starts g a h
 
 module _ (g : Graph) (p q : List ℕ) (u : ℕ) (l : u < g.order) where
   -- each vertex has a row
@@ -63,7 +61,7 @@ module _ (g : Graph) (p q : List ℕ) (u : ℕ) (l : u < g.order) where
       }
 
   -- it is not refused
-  pub index-accepted : row_refusal (starts g ++ p) (rows g ++ q) u ≡ none
+  pub index-accepted : row_refusal (starts g ++ p) (rows g ++ q) u ≡ None
   index-accepted = row-accepted (starts g ++ p) (rows g ++ q) u index-row
 
   -- and it is the neighbours of the vertex

@@ -2,10 +2,10 @@
 -- it is the next start, and from v to v + 1 it grows by one where an edge joins u to v, and stays where none does. An edge from u to v has
 -- just so many edges before it, so the entry at that place is v.
 use Prim.Native.Nat.{ℕ, zero, suc, ◌+◌, ◌<◌}
-use mathlib.Core.Bool.{Bool, true, false, cond, ◌&&◌, false≢true}
+use mathlib.Core.Bool.{Bool, true, false, cond, ◌&&◌}
 use mathlib.Core.List.{[], ◌∷◌, ◌++◌, append_assoc, append-nil}
 use mathlib.Core.Path.{◌≡◌, refl, sym, ap, ◌∙◌}
-use native.Mathlib.Decide.{ℕ_discrete, dec_le}
+use native.Mathlib.Decide.{ℕ_discrete}
 use native.Mathlib.Nat.{add-zero}
 use native.Mathlib.Numerals.{add-one}
 use native.Mathlib.Omega.{arith}
@@ -13,15 +13,16 @@ use borrow.Author.Tests.{ltb-true, ltb-false, eqb-true, lt-ltb, le-ltb, eq-eqb, 
 use lib.Dec.{eqb, ltb}
 use lib.ListN.{get_or, take}
 use lib.Seq.{take-suc}
+use Rattle.std.proofs.lemmas.Bool.Decides.{nat_tests}
 use Rattle.graph.specs.Range.{sum, if, first, flat}
 use Rattle.graph.specs.Graph.{Graph}
 use Rattle.graph.specs.Shapes.{Closed, Simple}
 use Rattle.graph.specs.Order.{lexicographic, rank_by, edge_at, below, rows}
 use Rattle.graph.specs.Sorting.{rank}
-use Rattle.graph.proofs.Tests.{and_left, and_right, test-ext}
-use Rattle.graph.proofs.Sums.{sum-ext, sum-add, sum-none, sum-pick, below_suc}
+use Rattle.graph.proofs.Tests.{and_left, and_right, test-ext, if-suc}
+use Rattle.graph.proofs.Sums.{sum-ext, sum-add, sum-none, sum-pick}
 use Rattle.graph.proofs.Ranges.{first_passes, first-before, length-table, get_or-table}
-use Rattle.graph.proofs.Order.{lexicographic-less, lexicographic-same, lexicographic-either, precedes-strict, rank_lt, nth-rank}
+use Rattle.graph.proofs.Order.{lexicographic-same, precedes-strict, rank_lt, nth-rank}
 use Rattle.adjacency.specs.Neighbours.{joins, adjacent}
 
 -- the rest counts only for equal numbers
@@ -30,26 +31,11 @@ lexicographic-ext a b h = elim (ℕ_discrete a b) [ yes e ↦ rw (h e) | no e �
 
 -- with a rest that fails the order is strict
 lexicographic-false : (a b : ℕ) → lexicographic a b false ≡ ltb a b
-lexicographic-false a b =
-    test-ext _ _ (λ h. lexicographic-either a b false h (λ l. lt-ltb a b l) (λ e t. absurd (false≢true t))) (λ h. rw h)
+lexicographic-false a b = grind (arith, nat_tests)
 
 -- and with one that holds it is not
 lexicographic-true : (a b : ℕ) → lexicographic a b true ≡ ltb a (suc b)
-lexicographic-true a b =
-    test-ext _ _
-    (λ h. lt-ltb a (suc b) (lexicographic-either a b true h (λ l. omega arith) (λ e t. omega arith)))
-    (λ h. below_suc (ltb-true a (suc b) h) (λ e. lexicographic-same a b true e) (λ l. lexicographic-less a b true l))
-
--- a number is below v + 1 where it is below v or v itself
-if-suc : (t v : ℕ) → if (ltb t (suc v)) 1 ≡ if (ltb t v) 1 + if (eqb t v) 1
-if-suc t v =
-    elim (dec_le t v) [
-      | yes l ↦ elim (ℕ_discrete t v) [
-        | yes e ↦ rw (lt-ltb t (suc v) (omega arith), le-ltb t v (omega arith), eq-eqb t v e)
-        | no e ↦ rw (lt-ltb t (suc v) (omega arith), lt-ltb t v (omega arith), ne_eqb t v e)
-      ]
-      | no l ↦ rw (le-ltb t (suc v) (omega arith), le-ltb t v (omega arith), ne_eqb t v (omega arith))
-    ]
+lexicographic-true a b = grind (arith, nat_tests)
 
 module _ (g : Graph) (u : ℕ) where
   -- how many edges come before every edge from u to v
@@ -110,12 +96,7 @@ module _ (g : Graph) (u : ℕ) where
     -- has the edges before it that come before every such edge
     rank-place : rank g e ≡ place v
     unfolding rank_by
-    rank-place = sum-ext g.size (λ d m. rw (s, t, lexicographic-ext (g.source d) u (inner d m)))
-      where
-        inner : (d : ℕ) → d < g.size → g.source d ≡ u → lexicographic (g.target d) v (ltb d e) ≡ ltb (g.target d) v
-        inner d m i =
-            lexicographic-ext (g.target d) v (λ j. le-ltb d e (omega (arith, simple d e m l (i ∙ sym s) (j ∙ sym t))))
-            ∙ lexicographic-false (g.target d) v
+    rank-place = grind (arith, nat_tests)
 
     -- so it stands within the rows
     place-lt : place v < g.size

@@ -1,3 +1,4 @@
 pub mod Calls
 pub mod Neighbours
 pub mod Peaks
+pub mod Rows

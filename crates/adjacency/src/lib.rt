@@ -4,14 +4,5 @@
 mod indexes;
 mod rows;
 
-use network::Refusal;
-
-// What the index call answers.
-#[derive(Clone, Copy)]
-pub enum IndexAnswer {
-    Done,
-    Refused(Refusal),
-}
-
 pub use indexes::index;
-pub use rows::{row, row_number, row_of, row_refusal};
+pub use rows::{row, row_of, row_range, row_refusal};

@@ -1,43 +1,57 @@
 // A row of the index is a part of the lent table, not a copy.
-ghost use Rattle.std.specs.Prelude.{◌≡◌};
+ghost use Rattle.std.specs.Prelude.{◌≡◌, ◌+◌, Some, IfOk, IfErr, get_or};
 ghost use Rattle.network.specs.Refusals.{row_refusal};
 ghost use Rattle.adjacency.specs.Calls.{RowCall, by_side};
+ghost use Rattle.adjacency.specs.Rows.{Row};
 
-use network::{Side, wide16};
+use network::{Refusal, Side};
+use std::ops::Range;
 
-// The number that refuses a row of one side's tables, or 0.
+// Where the row of a vertex lies in the rows table of its side.
 #[tactic(auto, using(crate::proofs::Refusals::ways_out))]
-pub fn row_number(starts: &[u16], rows: &[u16], member: usize) -> u16
-    ensures { result ≡ (row_refusal starts.now rows.now member).number }
+pub fn row_range(starts: &[u16], rows: &[u16], member: usize) -> Result<Range<usize>, Refusal>
+    ensures refused { IfErr result (λ r. row_refusal starts.now rows.now member ≡ Some r) }
+    ensures range { IfOk result (λ p. Row starts.now rows.now member × (p.start ≡ get_or starts.now member 0) × (p.end ≡ get_or starts.now (member + 1) 0)) }
 {
     if starts.len() < 1 {
-        return 9;
+        return Err(Refusal::Table);
     }
     if starts.len() - 1 <= member {
-        return 10;
+        return Err(Refusal::Member);
     }
-    let start = wide16(starts[member]);
-    let next = wide16(starts[member + 1]);
-    if next < start {
-        return 14;
+    let start = usize::from(starts[member]);
+    let next = usize::from(starts[member + 1]);
+    if next < start || rows.len() < next {
+        return Err(Refusal::Row);
     }
-    if rows.len() < next {
-        return 14;
-    }
-    0
+    Ok(start..next)
 }
 
 // The row of a vertex in one side's tables; the empty part where it is refused.
-#[tactic(auto, using(crate::proofs::Refusals::accepted_row))]
 pub fn row_of<'a>(starts: &[u16], rows: &'a [u16], member: usize) -> &'a [u16]
     ensures { RowCall starts.now rows.now member result.now }
 {
-    if row_number(starts, rows, member) != 0 {
-        return &rows[0..0];
+    match row_range(starts, rows, member) {
+        Ok(range) => &rows[range],
+        Err(_) => &rows[0..0],
     }
-    let from = wide16(starts[member]);
-    let to = wide16(starts[member + 1]);
-    &rows[from..to]
+}
+
+// Why a row in one side's tables is refused, where it is.
+fn refusal_of(starts: &[u16], rows: &[u16], member: usize) -> Option<Refusal>
+    ensures { result ≡ row_refusal starts.now rows.now member }
+{
+    row_range(starts, rows, member).err()
+}
+
+// Of an out table and an in table, the one of a side.
+fn by_side<'a>(side: Side, out: &'a [u16], inn: &'a [u16]) -> &'a [u16]
+    ensures { result.now ≡ by_side side out.now inn.now }
+{
+    match side {
+        Side::Source => out,
+        Side::Target => inn,
+    }
 }
 
 // The row of a vertex as a source or as a target: only that side's tables are looked at. The result has the life of the rows tables alone, so that
@@ -56,13 +70,11 @@ pub fn row<'a>(
         member
         result.now }
 {
-    match side {
-        Side::Source => row_of(out_starts, out_rows, member),
-        Side::Target => row_of(in_starts, in_rows, member),
-    }
+    let starts = by_side(side, out_starts, in_starts);
+    row_of(starts, by_side(side, out_rows, in_rows), member)
 }
 
-// The number that refuses that row, or 0.
+// Why the row is refused, where it is.
 pub fn row_refusal(
     side: Side,
     member: usize,
@@ -70,14 +82,12 @@ pub fn row_refusal(
     out_rows: &[u16],
     in_starts: &[u16],
     in_rows: &[u16],
-) -> u16
-    ensures { result ≡ (row_refusal
+) -> Option<Refusal>
+    ensures { result ≡ row_refusal
         (by_side side out_starts.now in_starts.now)
         (by_side side out_rows.now in_rows.now)
-        member).number }
+        member }
 {
-    match side {
-        Side::Source => row_number(out_starts, out_rows, member),
-        Side::Target => row_number(in_starts, in_rows, member),
-    }
+    let starts = by_side(side, out_starts, in_starts);
+    refusal_of(starts, by_side(side, out_rows, in_rows), member)
 }

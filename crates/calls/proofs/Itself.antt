@@ -1,19 +1,17 @@
 -- A file is its header and its edges as they stand. So one whose edges ascend is written byte for byte as it is, and zero bytes as the header of
 -- a file with no vertex and no edge; and two whose edges ascend hold the same links exactly when their bytes are equal.
 use Prim.Native.Nat.{ℕ, zero, suc, ◌+◌, ◌/◌, ◌%◌, ◌<◌, ◌≤◌}
-use mathlib.Core.Bool.{true, ◌&&◌}
+use mathlib.Core.Bool.{true}
 use mathlib.Core.List.{List, [], ◌∷◌, ◌++◌, append_assoc, append-nil}
 use mathlib.Core.Path.{◌≡◌, refl, sym, ap, ◌∙◌}
 use native.Mathlib.Numerals.{add-one}
 use native.Mathlib.Omega.{arith}
-use borrow.Author.Tests.{eqb-true}
-use lib.Dec.{eqb}
 use lib.ListN.{length, get_or, drop}
 use lib.Seq.{drop-cons, drop-length}
+use Rattle.std.proofs.lemmas.Bool.Decides.{nat_tests}
 use Rattle.graph.specs.Range.{flat}
 use Rattle.graph.specs.Graph.{Graph, SameLinks}
 use Rattle.graph.specs.Order.{Ascending}
-use Rattle.graph.proofs.Tests.{and_left, and_right}
 use Rattle.graph.proofs.Ranges.{flat-ext}
 use Rattle.graph.proofs.Ascending.{ascending-edge_at, Alike, ascending-alike}
 use Rattle.network.specs.File.{u16_at, link_at, graph_of, mark, marked}
@@ -28,13 +26,7 @@ standing g = header g.order g.size ++ flat (λ e. edge_bytes (g.source e) (g.tar
 
 -- the mark, before what comes after it
 mark-front : (f : List ℕ) → 9 ≤ length f → marked mark f ≡ true → 0x56 ∷ 0x43 ∷ 0x48 ∷ drop 3 f ≡ f
-mark-front f l h =
-    let both = and_left (eqb (get_or f 0 0) 0x56 && eqb (get_or f 1 0) 0x43) _ h in
-    let first : get_or f 0 0 ≡ 0x56 = eqb-true _ _ (and_left _ _ both) in
-    let second : get_or f 1 0 ≡ 0x43 = eqb-true _ _ (and_right (eqb (get_or f 0 0) 0x56) _ both) in
-    let third : get_or f 2 0 ≡ 0x48 = eqb-true _ _ (and_right (eqb (get_or f 0 0) 0x56 && eqb (get_or f 1 0) 0x43) _ h) in
-    rw (← first, ← second, ← third)
-    (sym (drop-cons f 0 0 (omega arith) ∙ ap (λ t. get_or f 0 0 ∷ t) (drop-cons f 1 0 (omega arith) ∙ ap (λ t. get_or f 1 0 ∷ t) (drop-cons f 2 0 (omega arith)))))
+mark-front f l h = grind (arith, nat_tests)
 
 module _ (f : List ℕ) (bytes : (i : ℕ) → get_or f i 0 < 256) where
   -- a number's two bytes, before what comes after them
@@ -66,12 +58,7 @@ module _ (f : List ℕ) (bytes : (i : ℕ) → get_or f i 0 < 256) where
 
   -- and the header
   header-front : Headed f → header (graph_of f).order (graph_of f).size ++ drop 9 f ≡ f
-  header-front a =
-      ap (λ t. 0x56 ∷ 0x43 ∷ 0x48 ∷ t)
-      (ap (λ v. u16 v ++ u16 (u16_at f 5) ++ u16 (u16_at f 7) ++ drop 9 f) (sym a.version)
-      ∙ ap (λ t. u16 (u16_at f 3) ++ t) (ap (λ t. u16 (u16_at f 5) ++ t) (number-front 7 9 refl a.long) ∙ number-front 5 7 refl (omega (arith, a.long)))
-      ∙ number-front 3 5 refl (omega (arith, a.long)))
-      ∙ mark-front f a.long a.is-marked
+  header-front a = grind (arith, nat_tests)
 
   -- so a file is its header and its edges as they stand
   pub standing-itself : Headed f → standing (graph_of f) ≡ f

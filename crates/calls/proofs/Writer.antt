@@ -1,38 +1,37 @@
 -- The calls that write a file: each refusal under its condition; and a file written and read again holds the same links.
 use Prim.Native.Nat.{ℕ, ◌<◌, ◌≤◌}
 use mathlib.Core.List.{List, ◌++◌}
-use mathlib.Core.Logic.{◌≢◌}
 use mathlib.Core.Path.{◌≡◌, refl, sym, ap, ◌∙◌}
 use native.Mathlib.Omega.{arith}
 use borrow.Author.Tests.{lt-ltb, le-ltb}
 use lib.ListN.{length, drop}
 use lib.Seq.{sets, take_at}
 use Rattle.graph.specs.Graph.{Graph}
+use Rattle.std.specs.Prelude.{Option, None, Some, Result}
 use Rattle.network.specs.declared.Refusal.{Refusal}
-use Rattle.network.specs.File.{link_at, graph_of, none, plain, old_refusal}
+use Rattle.network.specs.declared.Refusal.TheVariants.{Table}
+use Rattle.network.specs.File.{link_at, graph_of}
 use Rattle.network.specs.Bytes.{written}
 use Rattle.network.specs.Refusals.{out_refusal}
 use Rattle.network.specs.Accepted.{Distinct, Accepted}
-use Rattle.network.proofs.Accepted.{accepted-distinct, old-accepted, accepted, found-accepted}
-use Rattle.network.proofs.Answers.{call-done, call-refused, call-plain, or_else-found, or_else-second}
+use Rattle.network.proofs.Accepted.{accepted-distinct, old-accepted, accepted}
+use Rattle.network.proofs.Answers.{call-done, or_else-first, or_else-second}
 use Rattle.network.proofs.Puts.{sets-front}
 use Rattle.network.proofs.Written.{length-written, written-order, written-size, written-linked, written-edges, written-accepted, written-ascending}
-use Rattle.checking.proofs.Headers.{old_none}
-use Rattle.calls.specs.declared.WriteAnswer.{WriteAnswer}
 use Rattle.calls.specs.Calls.{ReadAgain, Rewritten, WriteCall, OrderCall}
 
--- the refusal of what is read comes first
-pub out-read : {r q : Refusal} (m o : ℕ) → q ≡ r → q.number ≢ 0 → q ≡ out_refusal r m o
+-- the refusal of what is read comes first,
+pub out-first : {r : Option Refusal} {q : Refusal} (m o : ℕ) → r ≡ Some q → out_refusal r m o ≡ Some q
 unfolding out_refusal
-out-read m o = or_else-found _
+out-first m o = or_else-first _
 
 -- then 9 for a short output
-pub out-short : {r : Refusal} (m o : ℕ) → r ≡ none → o < link_at m → plain 9 ≡ out_refusal r m o
+pub out-short : {r : Option Refusal} (m o : ℕ) → r ≡ None → o < link_at m → out_refusal r m o ≡ Some Table
 unfolding out_refusal
-out-short m o e l = sym (or_else-second _ e ∙ rw (lt-ltb o (link_at m) l))
+out-short m o e l = or_else-second _ e ∙ rw (lt-ltb o (link_at m) l)
 
 -- else none
-pub out_none : {r : Refusal} (m o : ℕ) → r ≡ none → link_at m ≤ o → out_refusal r m o ≡ none
+pub out_none : {r : Option Refusal} (m o : ℕ) → r ≡ None → link_at m ≤ o → out_refusal r m o ≡ None
 unfolding out_refusal
 out_none m o e l = or_else-second _ e ∙ rw (le-ltb o (link_at m) l)
 
@@ -61,13 +60,6 @@ rewritten {f} out {out'} a l e q = rw e (record { size = refl; file = file; agai
     file = q ∙ sets-front out (written g) (omega (arith, length-written g)) ∙ ap (λ k. written g ++ drop k out) (length-written g)
 
 -- the writer of an accepted file is the conversion of it: neither rule refuses the file
-pub order-accepted : (f out out' : List ℕ) {r : WriteAnswer} → Accepted f → WriteCall f out out' r → OrderCall f out out' r
+pub order-accepted : (f out out' : List ℕ) {r : Result ℕ Refusal} → Accepted f → WriteCall f out out' r → OrderCall f out out' r
 order-accepted f out out' a =
     call-done (ap (λ q. out_refusal q (graph_of f).size (length out)) ((accepted f).1 a ∙ sym ((old-accepted f).1 (accepted-distinct a)))) (λ v n d. d)
-
--- where the old rule was found to give no number, no two edges are the same
-pub old-distinct : (f : List ℕ) {r : Refusal} → r ≡ old_refusal f → r.number ≡ 0 → Distinct f
-old-distinct f e z = (old-accepted f).0 (old_none f e z)
-
--- what decides the ways out of a call that writes
-pub ruleset ways_out = (call-refused, call-plain, out-read, out-short, found-accepted, accepted, old_none, old-distinct)

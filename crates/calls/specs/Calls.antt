@@ -1,32 +1,28 @@
 -- What the calls on a file alone promise: check, count, write and order; and that links have one order.
-use Rattle.std.specs.Prelude.{ℕ, ◌<◌, ◌≤◌, List, [], ◌∷◌, ◌++◌, ◌↔◌, ◌≡◌, length, get_or, take, drop}
+use Rattle.std.specs.Prelude.{ℕ, ◌<◌, ◌≤◌, List, [], ◌∷◌, ◌++◌, ◌↔◌, ◌≡◌, None, Result, length, get_or, take, drop}
 use Rattle.graph.specs.Graph.{Group, SameLinks, edges}
 use Rattle.graph.specs.Order.{Ascending}
-use Rattle.network.specs.declared.TotalsAnswer as totalled
-use Rattle.network.specs.File.{link_at, graph_of, none, file_refusal}
+use Rattle.network.specs.declared.Refusal.{Refusal}
+use Rattle.network.specs.declared.Extent.{Extent}
+use Rattle.network.specs.declared.Totals.{Totals}
+use Rattle.network.specs.File.{link_at, graph_of, file_refusal}
 use Rattle.network.specs.Groups.{group_of, totals}
 use Rattle.network.specs.Bytes.{written}
 use Rattle.network.specs.Refusals.{count_refusal, write_refusal, order_refusal}
 use Rattle.network.specs.Calls.{Call}
-use Rattle.calls.specs.declared.CheckAnswer as checked
-use Rattle.calls.specs.declared.WriteAnswer as wrote
 
 -- 01: the check: n and m of an accepted file
-abbrev pub CheckCall : List ℕ → checked.CheckAnswer → Type 0
-CheckCall f =
-    Call (file_refusal f) checked.TheVariants.Refused (λ (n, m). checked.TheVariants.Accepted n m) [] []
-    (λ (n, m). (n ≡ (graph_of f).order) × (m ≡ (graph_of f).size))
+abbrev pub CheckCall : List ℕ → Result Extent Refusal → Type 0
+CheckCall f = Call (file_refusal f) [] [] (λ e. (e.order ≡ (graph_of f).order) × (e.size ≡ (graph_of f).size))
 
 -- 01: the count: E, |S| and |T| of the groups of the two tables
-abbrev pub CountCall : List ℕ → List ℕ → List ℕ → totalled.TotalsAnswer → Type 0
-CountCall f s t =
-    Call (count_refusal f s t) totalled.TheVariants.Refused totalled.TheVariants.Counted [] []
-    (λ c. c ≡ totals (graph_of f) (group_of s) (group_of t))
+abbrev pub CountCall : List ℕ → List ℕ → List ℕ → Result Totals Refusal → Type 0
+CountCall f s t = Call (count_refusal f s t) [] [] (λ c. c ≡ totals (graph_of f) (group_of s) (group_of t))
 
 -- Condition 2, last sentence: file w, read again, holds the links of file f. It is accepted, has the same members and as many links, the same
 -- ones, as many of them between any two groups, and they ascend.
 pub record ReadAgain (f w : List ℕ) : Type 0 where
-  pub accepted : file_refusal w ≡ none
+  pub accepted : file_refusal w ≡ None
   pub order : (graph_of w).order ≡ (graph_of f).order
   pub size : (graph_of w).size ≡ (graph_of f).size
   pub linked : SameLinks (graph_of w) (graph_of f)
@@ -40,22 +36,18 @@ pub record Rewritten (f out out' : List ℕ) (m : ℕ) : Type 0 where
   pub again : ReadAgain f (take (link_at m) out')
 
 -- 01: the writer
-abbrev pub WriteCall : List ℕ → List ℕ → List ℕ → wrote.WriteAnswer → Type 0
-WriteCall f out out' =
-    Call (write_refusal f (length out)) wrote.TheVariants.Refused wrote.TheVariants.Written (out ∷ []) (out' ∷ [])
-    (Rewritten f out out')
+abbrev pub WriteCall : List ℕ → List ℕ → List ℕ → Result ℕ Refusal → Type 0
+WriteCall f out out' = Call (write_refusal f (length out)) (out ∷ []) (out' ∷ []) (Rewritten f out out')
 
 -- 02, wish 7: the conversion: it takes a file by the old rule, and the file in the output is accepted by the new one
-abbrev pub OrderCall : List ℕ → List ℕ → List ℕ → wrote.WriteAnswer → Type 0
-OrderCall f out out' =
-    Call (order_refusal f (length out)) wrote.TheVariants.Refused wrote.TheVariants.Written (out ∷ []) (out' ∷ [])
-    (Rewritten f out out')
+abbrev pub OrderCall : List ℕ → List ℕ → List ℕ → Result ℕ Refusal → Type 0
+OrderCall f out out' = Call (order_refusal f (length out)) (out ∷ []) (out' ∷ []) (Rewritten f out out')
 
 -- a file of bytes that is accepted and not empty
 pub record Filed (f : List ℕ) : Type 0 where
   pub bytes : (i : ℕ) → get_or f i 0 < 256
   pub some : 1 ≤ length f
-  pub accepted : file_refusal f ≡ none
+  pub accepted : file_refusal f ≡ None
 
 -- 02, wish 7: with the same n and no empty input, two accepted files hold the same links exactly when their bytes are equal
 abbrev pub OneOrder : Type 0

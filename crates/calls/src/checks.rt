@@ -1,20 +1,16 @@
 // The check call.
 ghost use Rattle.calls.specs.Calls.{CheckCall};
 
-use crate::CheckAnswer;
-use checking::file_refusal;
-use network::{order_of, size_of};
+use checking::check_file;
+use network::{Extent, Refusal, order_of, size_of};
 
 // 01: the check of a file.
-pub fn check(file: &[u8]) -> CheckAnswer
+pub fn check(file: &[u8]) -> Result<Extent, Refusal>
     ensures { CheckCall file.now result }
 {
-    let refusal = file_refusal(file);
-    if refusal.number != 0 {
-        return CheckAnswer::Refused(refusal);
-    }
-    CheckAnswer::Accepted {
+    check_file(file)?;
+    Ok(Extent {
         order: order_of(file),
         size: size_of(file),
-    }
+    })
 }

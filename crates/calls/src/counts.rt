@@ -1,5 +1,5 @@
 // The edges between two groups, and the groups' sizes.
-ghost use Rattle.std.specs.Prelude.{◌&&◌, ◌≡◌, ◌<◌, ◌≤◌, eqb, length};
+ghost use Rattle.std.specs.Prelude.{◌≡◌, ◌<◌, ◌≤◌, length};
 ghost use Rattle.graph.specs.Range.{sum, if};
 ghost use Rattle.graph.specs.Graph.{edges};
 ghost use Rattle.network.specs.File.{graph_of};
@@ -7,25 +7,8 @@ ghost use Rattle.network.specs.Groups.{group_of};
 ghost use Rattle.network.specs.Accepted.{Sound};
 ghost use Rattle.calls.specs.Calls.{CountCall};
 
-use checking::{are_groups, file_refusal};
-use network::{Refusal, Side, Totals, TotalsAnswer, end_at, order_of, size_of, wide16};
-
-// 1 for a byte that says in, else 0.
-fn member(byte: u8) -> u16
-    ensures { result ≡ if (eqb byte 1) 1 }
-{
-    if byte == 1 { 1 } else { 0 }
-}
-
-// 1 where both bytes say in, else 0.
-fn both(source: u8, target: u8) -> u32
-    ensures { result ≡ if (eqb source 1 && eqb target 1) 1 }
-{
-    if source != 1 {
-        return 0;
-    }
-    if target == 1 { 1 } else { 0 }
-}
+use checking::{are_groups, check_file};
+use network::{Refusal, Side, Totals, end_at, order_of, size_of};
 
 // 01: the size of a group. It is counted in 16 bits, many bytes at a time.
 fn group_size(group: &[u8], n: usize) -> usize
@@ -33,10 +16,10 @@ fn group_size(group: &[u8], n: usize) -> usize
     ensures { result ≡ sum (λ u. if (group_of group.now u) 1) n }
 {
     let mut total: u16 = 0;
-    for u in 0..n {
-        total += member(group[u]);
+    for byte in &group[0..n] {
+        total += u16::from(*byte == 1);
     }
-    wide16(total)
+    usize::from(total)
 }
 
 // 01: E(S,T).
@@ -50,31 +33,24 @@ fn edges_between(file: &[u8], s: &[u8], t: &[u8]) -> u32
     for e in 0..size {
         let source = end_at(file, Side::Source, e);
         let target = end_at(file, Side::Target, e);
-        total += both(s[source], t[target]);
+        total += u32::from((s[source] == 1) & (t[target] == 1));
     }
     total
 }
 
 // 01: the count call.
-#[tactic(auto, using(crate::proofs::Counted::ways_out))]
-pub fn count(file: &[u8], s: &[u8], t: &[u8]) -> TotalsAnswer
+pub fn count(file: &[u8], s: &[u8], t: &[u8]) -> Result<Totals, Refusal>
     ensures { CountCall file.now s.now t.now result }
 {
-    let refusal = file_refusal(file);
-    if refusal.number != 0 {
-        return TotalsAnswer::Refused(refusal);
-    }
+    check_file(file)?;
     let n = order_of(file);
-    if s.len() < n {
-        return TotalsAnswer::Refused(Refusal::plain(9));
-    }
-    if t.len() < n {
-        return TotalsAnswer::Refused(Refusal::plain(9));
+    if s.len() < n || t.len() < n {
+        return Err(Refusal::Table);
     }
     if !are_groups(s, t, n) {
-        return TotalsAnswer::Refused(Refusal::plain(11));
+        return Err(Refusal::Group);
     }
-    TotalsAnswer::Counted(Totals {
+    Ok(Totals {
         edges: edges_between(file, s, t),
         sources: group_size(s, n),
         targets: group_size(t, n),

@@ -8,11 +8,10 @@ ghost use Rattle.network.specs.Bytes.{edges_bytes, written};
 ghost use Rattle.network.specs.Accepted.{Sound};
 ghost use Rattle.calls.specs.Calls.{OrderCall};
 
-use crate::WriteAnswer;
 use crate::writes::write_accepted;
-use checking::{is_accepted, old_refusal};
+use checking::{check_old, is_accepted};
 use network::{
-    MOST_LINKS, Refusal, Side, end_at, link_at, order_of, put_edge, put_header, size_of, wide16,
+    MOST_LINKS, Refusal, Side, end_at, link_at, order_of, put_edge, put_header, size_of,
 };
 
 // Every edge, in the order given.
@@ -22,11 +21,9 @@ fn put_edges(file: &[u8], order: &[u16], out: &mut [u8])
     requires sorted { Sorted (precedes (graph_of file.now)) (graph_of file.now).size order.now }
     ensures { out.new ≡ sets out.old 9 (edges_bytes (graph_of file.now)) }
 {
-    let size = size_of(file);
-    for i in 0..size {
-        let edge = wide16(order[i]);
-        let source = end_at(file, Side::Source, edge);
-        let target = end_at(file, Side::Target, edge);
+    for (i, edge) in order[0..size_of(file)].iter().enumerate() {
+        let source = end_at(file, Side::Source, usize::from(*edge));
+        let target = end_at(file, Side::Target, usize::from(*edge));
         put_edge(out, link_at(i), source, target);
     }
 }
@@ -43,25 +40,21 @@ fn put_file(file: &[u8], order: &[u16], out: &mut [u8])
 }
 
 // A file that is not known to ascend: the check by the old rule leaves the order that it needed.
-#[tactic(auto, using(crate::proofs::Writer::ways_out))]
-fn sort_file(file: &[u8], out: &mut [u8]) -> WriteAnswer
+fn sort_file(file: &[u8], out: &mut [u8]) -> Result<usize, Refusal>
     ensures { OrderCall file.now out.old out.new result }
 {
     let mut sorted = [0u16; MOST_LINKS];
-    let refusal = old_refusal(file, &mut sorted);
-    if refusal.number != 0 {
-        return WriteAnswer::Refused(refusal);
-    }
+    check_old(file, &mut sorted)?;
     let size = size_of(file);
     if out.len() < link_at(size) {
-        return WriteAnswer::Refused(Refusal::plain(9));
+        return Err(Refusal::Table);
     }
     put_file(file, &sorted, out);
-    WriteAnswer::Written { size }
+    Ok(size)
 }
 
 // 02, wish 7: the conversion of a stored file. One that is in order already is written as it stands.
-pub fn order(file: &[u8], out: &mut [u8]) -> WriteAnswer
+pub fn order(file: &[u8], out: &mut [u8]) -> Result<usize, Refusal>
     ensures { OrderCall file.now out.old out.new result }
 {
     if is_accepted(file) {

@@ -25,13 +25,14 @@ use Rattle.graph.proofs.Weights.{nonempty-x, nonempty-y}
 use Rattle.graph.proofs.Masks.{closed-weighing}
 use Rattle.graph.proofs.Layers.{layer-make, layer-product}
 use Rattle.network.specs.declared.Refusal.{Refusal}
-use Rattle.network.specs.File.{graph_of, none, old_refusal, file_refusal}
+use Rattle.std.specs.Prelude.{Option, None, Some, is_none}
+use Rattle.network.specs.File.{graph_of, number_told, link_told, old_refusal, file_refusal}
 use Rattle.network.specs.Bytes.{written}
 use Rattle.journal.specs.Entries.{members as members_of, header_refusal}
 use Rattle.journal.specs.Journal.{live, due, after}
 use Rattle.journal.specs.Calls.{count_of}
 use Rattle.cases.specs.Journals.{numbers_after, pairs_after, SaysJournal, SaysTotals}
-use Rattle.cases.specs.Cases.{members, Ring, Counts, Claim, core, level, across, finding, layers, harmonic, has, gives, orders, follows, totals, heads, Rings, Says, Case, Hold}
+use Rattle.cases.specs.Cases.{numbers_of, members, Ring, Counts, Claim, core, level, across, finding, layers, harmonic, has, gives, orders, follows, totals, heads, Rings, Says, Case, Hold}
 use Rattle.cases.proofs.Sweep.{with_out, with_in, sources_left, targets_left, covers-sweep}
 use Rattle.cases.proofs.Drops.{drops, found_of, places-found}
 
@@ -313,15 +314,18 @@ harmonic-sound g S T h =
       targets = λ v l. same_true (every-at g.order _ q v l) ∙ ap (λ P. P (g.order + v)) (sym (places-found g));
     }
 
--- two refusals are equal
-abbrev pub is_refusal : Refusal → Refusal → Bool
-is_refusal r s = eqb r.number s.number && eqb r.link s.link
+-- a refusal has these two numbers
+abbrev pub is_refusal : Option Refusal → ℕ × ℕ → Bool
+is_refusal r (k, e) = eqb (number_told r) k && eqb (link_told r) e
 
--- as records
-refusal-sound : (r s : Refusal) → is_refusal r s ≡ true → r ≡ s
-refusal-sound r s h =
-    let (p, q) = both (eqb r.number s.number) _ h in
-    λ i. record { number = eqb-true r.number s.number p i; link = eqb-true r.link s.link q i }
+-- as a pair
+refusal-sound : (r : Option Refusal) (s : ℕ × ℕ) → is_refusal r s ≡ true → numbers_of r ≡ s
+refusal-sound r (k, e) h = let (p, q) = both (eqb (number_told r) k) _ h in rw (eqb-true (number_told r) k p, eqb-true (link_told r) e q)
+
+-- there is none
+none-sound : (r : Option Refusal) → is_none r ≡ true → r ≡ None
+none-sound None h = refl
+none-sound (Some q) h = absurd (false≢true h)
 
 -- two lists of bytes are equal
 abbrev pub are_equal : List ℕ → List ℕ → Bool
@@ -339,24 +343,24 @@ equal-sound (a ∷ l) (b ∷ m) h = let (p, q) = both (eqb a b) _ h in rw (eqb-t
 
 -- the file is accepted, and its network is closed
 abbrev pub is_accepted : List ℕ → Bool
-is_accepted f = is_refusal (file_refusal f) none && is_closed (graph_of f)
+is_accepted f = is_none (file_refusal f) && is_closed (graph_of f)
 
 -- by the definitions
-accepted-sound : (f : List ℕ) → is_accepted f ≡ true → (file_refusal f ≡ none) × Closed (graph_of f)
-accepted-sound f h = let (p, q) = both (is_refusal (file_refusal f) none) _ h in (refusal-sound (file_refusal f) none p, closed-sound (graph_of f) q)
+accepted-sound : (f : List ℕ) → is_accepted f ≡ true → (file_refusal f ≡ None) × Closed (graph_of f)
+accepted-sound f h = let (p, q) = both (is_none (file_refusal f)) _ h in (none-sound (file_refusal f) p, closed-sound (graph_of f) q)
 
 -- the journal is not refused, and of its entries followed the numbers and the links present after them are the listed ones
 abbrev pub is_journal : List ℕ → ℕ → List ℕ → List ℕ → Bool
 is_journal j asked numbers present =
-    is_refusal (header_refusal j) none && (are_equal (numbers_after j asked) numbers && are_equal (pairs_after j asked) present)
+    is_none (header_refusal j) && (are_equal (numbers_after j asked) numbers && are_equal (pairs_after j asked) present)
 
 -- by the definitions
 journal-sound : (j : List ℕ) (asked : ℕ) (numbers present : List ℕ) → is_journal j asked numbers present ≡ true → SaysJournal j asked numbers present
 journal-sound j asked numbers present h =
-    let (p, r) = both (is_refusal (header_refusal j) none) _ h in
+    let (p, r) = both (is_none (header_refusal j)) _ h in
     let (q, t) = both (are_equal (numbers_after j asked) numbers) _ r in
     record {
-      header = refusal-sound (header_refusal j) none p;
+      header = none-sound (header_refusal j) p;
       numbers = equal-sound (numbers_after j asked) numbers q;
       present = equal-sound (pairs_after j asked) present t;
     }
@@ -365,14 +369,14 @@ journal-sound j asked numbers present h =
 abbrev pub is_totals : List ℕ → (asked l d : ℕ) → Bool
 is_totals j asked l d =
     let S = (after j (count_of j asked)).present in
-    is_refusal (header_refusal j) none && (eqb (live (members_of j) S) l && eqb (due (members_of j) S) d)
+    is_none (header_refusal j) && (eqb (live (members_of j) S) l && eqb (due (members_of j) S) d)
 
 -- by the definitions
 totals-sound : (j : List ℕ) (asked l d : ℕ) → is_totals j asked l d ≡ true → SaysTotals j asked l d
 totals-sound j asked l d h =
-    let (p, r) = both (is_refusal (header_refusal j) none) _ h in
+    let (p, r) = both (is_none (header_refusal j)) _ h in
     let (q, t) = both (eqb (live (members_of j) (after j (count_of j asked)).present) l) _ r in
-    record { header = refusal-sound (header_refusal j) none p; live_is = eqb-true _ l q; due_is = eqb-true _ d t }
+    record { header = none-sound (header_refusal j) p; live_is = eqb-true _ l q; due_is = eqb-true _ d t }
 
 -- the test of a claim on a file inside A and B
 abbrev pub holds : List ℕ → Group → Group → Claim → Bool
@@ -385,9 +389,9 @@ holds f A B (finding x y k S T E) =
 holds f A B (layers l rings) =
     is_accepted f && (are_layers (graph_of f) A B (λ e. get_or l e 0) (length rings) && are_rings (graph_of f) A B (λ e. get_or l e 0) 1 rings)
 holds f A B (harmonic S T E) = is_accepted f && (is_harmonic (graph_of f) (members S) (members T) && is_counts (graph_of f) S T E)
-holds f A B (has n m) = is_refusal (file_refusal f) none && (eqb (graph_of f).order n && eqb (graph_of f).size m)
+holds f A B (has n m) = is_none (file_refusal f) && (eqb (graph_of f).order n && eqb (graph_of f).size m)
 holds f A B (gives r) = is_refusal (file_refusal f) r
-holds f A B (orders w) = is_refusal (old_refusal f) none && (are_equal (written (graph_of f)) w && is_refusal (file_refusal w) none)
+holds f A B (orders w) = is_none (old_refusal f) && (are_equal (written (graph_of f)) w && is_none (file_refusal w))
 holds f A B (follows asked numbers present) = is_journal f asked numbers present
 holds f A B (totals asked l d) = is_totals f asked l d
 holds f A B (heads r) = is_refusal (header_refusal f) r
@@ -429,14 +433,14 @@ holds-sound f A B (harmonic S T E) h =
     let (p, q) = both (is_harmonic (graph_of f) (members S) (members T)) _ r in
     record { accepted = (accepted-sound f a).0; found = harmonic-sound (graph_of f) (members S) (members T) p; counts = counts-sound (graph_of f) S T E q }
 holds-sound f A B (has n m) h =
-    let (a, r) = both (is_refusal (file_refusal f) none) _ h in
+    let (a, r) = both (is_none (file_refusal f)) _ h in
     let (p, q) = both (eqb (graph_of f).order n) _ r in
-    (refusal-sound (file_refusal f) none a, eqb-true _ _ p, eqb-true _ _ q)
+    (none-sound (file_refusal f) a, eqb-true _ _ p, eqb-true _ _ q)
 holds-sound f A B (gives r) h = refusal-sound (file_refusal f) r h
 holds-sound f A B (orders w) h =
-    let (a, r) = both (is_refusal (old_refusal f) none) _ h in
+    let (a, r) = both (is_none (old_refusal f)) _ h in
     let (p, q) = both (are_equal (written (graph_of f)) w) _ r in
-    (refusal-sound (old_refusal f) none a, equal-sound (written (graph_of f)) w p, refusal-sound (file_refusal w) none q)
+    (none-sound (old_refusal f) a, equal-sound (written (graph_of f)) w p, none-sound (file_refusal w) q)
 holds-sound f A B (follows asked numbers present) h = journal-sound f asked numbers present h
 holds-sound f A B (totals asked l d) h = totals-sound f asked l d h
 holds-sound f A B (heads r) h = refusal-sound (header_refusal f) r h

@@ -1,16 +1,30 @@
 -- 01's "Networks to try" and 02's examples as one table: each network as the bytes of its file, two groups A and B, and what is said of it
 -- inside them, by the definitions; and journals, as their bytes.
-use Rattle.std.specs.Prelude.{ℕ, suc, false, ◌||◌, List, [], ◌∷◌, ◌++◌, ◌≡◌, eqb, length, get_or, take}
+use Rattle.std.specs.Prelude.{ℕ, suc, false, ◌||◌, List, [], ◌∷◌, ◌++◌, ◌≡◌, Option, None, eqb, length, get_or, take}
 use Rattle.graph.specs.Graph.{Graph, Group, everyone, card, edges}
 use Rattle.graph.specs.Core.{CoreInside, LevelInside, LevelAcrossInside, EqualLevelInside, FindingInside}
 use Rattle.graph.specs.Quiet.{OutcomeInside}
 use Rattle.graph.specs.Layers.{still_in, LayeringInside}
 use Rattle.graph.specs.Harmonic.{Harmonic}
 use Rattle.network.specs.declared.Refusal.{Refusal}
-use Rattle.network.specs.File.{mark, graph_of, none, plain, at, old_refusal, file_refusal}
+use Rattle.network.specs.File.{mark, graph_of, number_told, link_told, old_refusal, file_refusal}
 use Rattle.network.specs.Bytes.{u16, header, edge_bytes, written}
 use Rattle.journal.specs.Entries.{journal_mark, header_refusal}
 use Rattle.cases.specs.Journals.{journal_header, entry, SaysJournal, SaysTotals}
+
+-- 01: the two numbers that are returned for a refusal, and zeros where there is none
+abbrev pub numbers_of : Option Refusal → ℕ × ℕ
+numbers_of r = (number_told r, link_told r)
+
+-- those of none, of one by its number alone, and of one that names a link
+abbrev pub none : ℕ × ℕ
+none = (0, 0)
+
+abbrev pub plain : ℕ → ℕ × ℕ
+plain k = (k, 0)
+
+abbrev pub at : ℕ → ℕ → ℕ × ℕ
+at k e = (k, e)
 
 -- the group of the listed members
 abbrev pub members : List ℕ → Group
@@ -41,8 +55,8 @@ pub data Claim : Type 0 where
   harmonic : (S T : List ℕ) (E : ℕ) → Claim
   -- the file is accepted, with n members and m links
   has : (n m : ℕ) → Claim
-  -- the file's own bytes give this refusal, or none
-  gives : Refusal → Claim
+  -- the file's own bytes give the refusal of these two numbers, or none
+  gives : ℕ × ℕ → Claim
   -- by the old rule the file is accepted, and its links in order are this file, which is accepted
   orders : List ℕ → Claim
   -- the bytes are a journal that is not refused; of its entries the first `asked` are followed, or all where there are fewer: these have the
@@ -50,8 +64,8 @@ pub data Claim : Type 0 where
   follows : (asked : ℕ) (numbers present : List ℕ) → Claim
   -- and so many are live and due after the entries followed
   totals : (asked live due : ℕ) → Claim
-  -- the journal's header gives this refusal, or none
-  heads : Refusal → Claim
+  -- the journal's header gives the refusal of these two numbers, or none
+  heads : ℕ × ℕ → Claim
 
 -- the counts between the listed groups: E links, and no member listed twice or beyond the network
 pub record Counts (g : Graph) (S T : List ℕ) (E : ℕ) : Type 0 where
@@ -61,13 +75,13 @@ pub record Counts (g : Graph) (S T : List ℕ) (E : ℕ) : Type 0 where
 
 -- the file is accepted, and (S,T) is the [x,y]-core of its network inside A and B
 pub record SaysCore (f : List ℕ) (A B : Group) (x y : ℕ) (S T : List ℕ) (E : ℕ) : Type 0 where
-  pub accepted : file_refusal f ≡ none
+  pub accepted : file_refusal f ≡ None
   pub core : CoreInside (graph_of f) A B x y (members S) (members T)
   pub counts : Counts (graph_of f) S T E
 
 -- the file is accepted, and (S,T) is what is found in its network inside A and B, for [x,y]
 pub record SaysFinding (f : List ℕ) (A B : Group) (x y k : ℕ) (S T : List ℕ) (E : ℕ) : Type 0 where
-  pub accepted : file_refusal f ≡ none
+  pub accepted : file_refusal f ≡ None
   pub outcome : OutcomeInside (graph_of f) A B x y (members S) (members T)
   pub level : EqualLevelInside (graph_of f) A B k
   pub counts : Counts (graph_of f) S T E
@@ -81,30 +95,30 @@ Rings g A B L l (r ∷ rings) =
 
 -- the file is accepted, and inside A and B its links have these layers, of which each is its ring
 pub record SaysLayers (f : List ℕ) (A B : Group) (layers : List ℕ) (rings : List Ring) : Type 0 where
-  pub accepted : file_refusal f ≡ none
+  pub accepted : file_refusal f ≡ None
   pub layering : LayeringInside (graph_of f) A B (λ e. get_or layers e 0) (length rings)
   pub each : Rings (graph_of f) A B (λ e. get_or layers e 0) 1 rings
 
 -- the file is accepted, and (S,T) is the pair that the harmonic finder finds in its network
 pub record SaysHarmonic (f : List ℕ) (S T : List ℕ) (E : ℕ) : Type 0 where
-  pub accepted : file_refusal f ≡ none
+  pub accepted : file_refusal f ≡ None
   pub found : Harmonic (graph_of f) (members S) (members T)
   pub counts : Counts (graph_of f) S T E
 
 -- a claim on a file inside A and B, by the definitions; A and B do not count for the harmonic finder, nor for the bytes of a file or a journal
 abbrev pub Says : List ℕ → Group → Group → Claim → Type 0
 Says f A B (core x y S T E) = SaysCore f A B x y S T E
-Says f A B (level x y) = (file_refusal f ≡ none) × LevelInside (graph_of f) A B x y
-Says f A B (across y x) = (file_refusal f ≡ none) × LevelAcrossInside (graph_of f) A B y x
+Says f A B (level x y) = (file_refusal f ≡ None) × LevelInside (graph_of f) A B x y
+Says f A B (across y x) = (file_refusal f ≡ None) × LevelAcrossInside (graph_of f) A B y x
 Says f A B (finding x y k S T E) = SaysFinding f A B x y k S T E
 Says f A B (layers l rings) = SaysLayers f A B l rings
 Says f A B (harmonic S T E) = SaysHarmonic f S T E
-Says f A B (has n m) = (file_refusal f ≡ none) × ((graph_of f).order ≡ n) × ((graph_of f).size ≡ m)
-Says f A B (gives r) = file_refusal f ≡ r
-Says f A B (orders w) = (old_refusal f ≡ none) × (written (graph_of f) ≡ w) × (file_refusal w ≡ none)
+Says f A B (has n m) = (file_refusal f ≡ None) × ((graph_of f).order ≡ n) × ((graph_of f).size ≡ m)
+Says f A B (gives r) = numbers_of (file_refusal f) ≡ r
+Says f A B (orders w) = (old_refusal f ≡ None) × (written (graph_of f) ≡ w) × (file_refusal w ≡ None)
 Says f A B (follows asked numbers present) = SaysJournal f asked numbers present
 Says f A B (totals asked live due) = SaysTotals f asked live due
-Says f A B (heads r) = header_refusal f ≡ r
+Says f A B (heads r) = numbers_of (header_refusal f) ≡ r
 
 -- a file or a journal, the groups A and B, and one claim on it inside them
 pub record Case : Type 0 where

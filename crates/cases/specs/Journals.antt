@@ -1,7 +1,7 @@
 -- What is said of a journal (02, wishes 8 and 9): the numbers of its entries, the links present after them and both totals; and 19 and 20 by a law.
-use Rattle.std.specs.Prelude.{ℕ, false, ◌+◌, ◌<◌, ◌≤◌, ◌*◌, ◌/◌, ◌%◌, List, ◌∷◌, ◌++◌, ◌≡◌}
+use Rattle.std.specs.Prelude.{ℕ, false, ◌+◌, ◌<◌, ◌≤◌, ◌*◌, ◌/◌, ◌%◌, List, ◌∷◌, ◌++◌, ◌≡◌, None}
 use Rattle.graph.specs.Range.{if, table}
-use Rattle.network.specs.File.{most_links, none}
+use Rattle.network.specs.File.{most_links}
 use Rattle.network.specs.Bytes.{u16}
 use Rattle.linkset.specs.Links.{Links}
 use Rattle.journal.specs.declared.Entry.TheVariants.{Add}
@@ -31,13 +31,13 @@ pairs_after j asked = pairs (members j) (after j (count_of j asked)).present
 
 -- the header gives no refusal, the entries followed have these numbers, and these links are present after them
 pub record SaysJournal (j : List ℕ) (asked : ℕ) (given left : List ℕ) : Type 0 where
-  pub header : header_refusal j ≡ none
+  pub header : header_refusal j ≡ None
   pub numbers : numbers_after j asked ≡ given
   pub present : pairs_after j asked ≡ left
 
 -- the header gives no refusal, and so many are live and due after the entries followed
 pub record SaysTotals (j : List ℕ) (asked l d : ℕ) : Type 0 where
-  pub header : header_refusal j ≡ none
+  pub header : header_refusal j ≡ None
   pub live_is : live (members j) (after j (count_of j asked)).present ≡ l
   pub due_is : due (members j) (after j (count_of j asked)).present ≡ d
 

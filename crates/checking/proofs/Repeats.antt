@@ -1,24 +1,21 @@
 -- Repeated edges: in the ascending order an edge that repeats an earlier one stands right after one that is the same.
-use Prim.Native.Nat.{ℕ, zero, suc, ◌+◌, ◌-◌, ◌<◌, ◌≤◌}
-use mathlib.Core.Bool.{Bool, true, false, cond, ◌&&◌, false≢true}
+use Prim.Native.Nat.{ℕ, min, zero, suc, ◌+◌, ◌<◌, ◌≤◌}
+use mathlib.Core.Bool.{Bool, true, false}
 use mathlib.Core.Logic.{◌≢◌}
-use mathlib.Core.Path.{◌≡◌, refl, sym, ap, ◌∙◌}
+use mathlib.Core.Path.{◌≡◌, subst, refl, sym, ap, ◌∙◌}
 use native.Mathlib.Decide.{dec_le, ℕ_discrete}
-use native.Mathlib.Nat.{suc_inj}
-use native.Mathlib.Numerals.{add-one}
 use native.Mathlib.Omega.{arith}
 use borrow.Author.Tests.{ltb-true, lt-ltb}
 use lib.Dec.{ltb}
+use Rattle.std.proofs.lemmas.Bool.Decides.{nat_tests}
 use Rattle.graph.specs.Range.{first}
 use Rattle.graph.specs.Graph.{Graph}
 use Rattle.graph.specs.Order.{precedes, edge_at}
 use Rattle.graph.specs.Sorting.{rank}
-use Rattle.graph.proofs.Tests.{and_left, and_right, and_both, test-fails}
-use Rattle.graph.proofs.Sums.{below_suc}
+use Rattle.graph.proofs.Tests.{test-fails}
 use Rattle.graph.proofs.Ranges.{first_passes, first_some, first-is}
-use Rattle.graph.proofs.Order.{lexicographic-same, lexicographic-either, precedes-strict, rank_lt, rank-injective, rank_mono, rank_less, rank-nth, nth-rank, edge_at-lt, edge_at-ascending}
+use Rattle.graph.proofs.Order.{precedes-strict, rank_lt, rank-injective, rank_mono, rank_less, rank-nth, nth-rank, edge_at-lt, edge_at-ascending}
 use Rattle.network.specs.File.{same, repeat}
-use Rattle.network.proofs.Accepted.{same_ends}
 
 -- edge e repeats an earlier one
 abbrev pub repeats : Graph → ℕ → Bool
@@ -26,24 +23,11 @@ repeats g e = ltb (first (λ d. same g d e) e) e
 
 -- of two edges that are the same the one of the smaller number comes before the other
 same-precedes : (g : Graph) (d e : ℕ) → same g d e ≡ true → precedes g d e ≡ ltb d e
-same-precedes g d e h =
-    let (s, t) = (same_ends g d e).0 h in
-    lexicographic-same (g.source d) (g.source e) _ s ∙ lexicographic-same (g.target d) (g.target e) _ t
+same-precedes g d e h = grind (arith, nat_tests)
 
 -- what stands between two edges that are the same is the same
 same-between : (g : Graph) (d b e : ℕ) → same g d e ≡ true → (d ≡ b → ⊥) → precedes g d b ≡ true → precedes g b e ≡ true → same g b e ≡ true
-same-between g d b e h n p q =
-    let (s, t) = (same_ends g d e).0 h in
-    (same_ends g b e).1 (
-    lexicographic-either (g.source d) (g.source b) _ p
-    (λ l. lexicographic-either (g.source b) (g.source e) _ q (λ m. absurd (omega arith)) (λ i u. absurd (omega arith)))
-    (λ i u. lexicographic-either (g.source b) (g.source e) _ q (λ m. absurd (omega arith)) (λ j v. (
-      j,
-      lexicographic-either (g.target d) (g.target b) _ u
-          (λ l. lexicographic-either (g.target b) (g.target e) _ v (λ m. absurd (omega arith)) (λ k w. k))
-          (λ k w. sym k ∙ t),
-    )))
-    )
+same-between g d b e h n p q = grind (arith, nat_tests)
 
 -- an edge that stands right after one that is the same repeats it
 pub neighbour-repeats : (g : Graph) (i : ℕ) → suc i < g.size → same g (edge_at g i) (edge_at g (suc i)) ≡ true → repeats g (edge_at g (suc i)) ≡ true
@@ -106,36 +90,23 @@ pub record Least (g : Graph) (i k : ℕ) : Type 0 where
   pub some : k < g.size → repeats g k ≡ true
   pub least : (j : ℕ) → suc j < i → suc j < g.size → same g (edge_at g j) (edge_at g (suc j)) ≡ true → k ≤ edge_at g (suc j)
 
--- the next edge takes its place where it is less and the same as the one before it
-pub least-next : (g : Graph) (i k b e : ℕ) → suc i < g.size → b ≡ edge_at g i → e ≡ edge_at g (suc i) → Least g (suc i) k → Least g (suc (suc i)) (cond (ltb e k && same g b e) e k)
-least-next g i k b e l p q h = go (ltb e k && same g b e) refl
-  where
-    go : (t : Bool) → (ltb e k && same g b e) ≡ t → Least g (suc (suc i)) (cond t e k)
-    go true r =
-        let less : e < k = ltb-true e k (and_left (ltb e k) _ r) in
-        let alike : same g (edge_at g i) (edge_at g (suc i)) ≡ true = rw (← p, ← q) (and_right (ltb e k) _ r) in
-        record {
-          most = omega (arith, h.most);
-          some = λ m. rw q (neighbour-repeats g i l alike);
-          least = λ j m n s. below_suc m (λ u. omega (arith, ap (λ j. edge_at g (suc j)) (suc_inj u))) (λ u. omega (arith, h.least j u n s));
-        }
-    go false r =
-        record {
-          most = h.most;
-          some = h.some;
-          least = λ j m n s. below_suc m (λ u. late j (suc_inj u) s) (λ u. h.least j u n s);
-        }
-      where
-        late : (j : ℕ) → j ≡ i → same g (edge_at g j) (edge_at g (suc j)) ≡ true → k ≤ edge_at g (suc j)
-        late j u s = elim (dec_le k e) [ yes m ↦ rw u (omega arith) | no m ↦ absurd (false≢true (sym r ∙ and_both (lt-ltb e k (omega arith)) (rw (p, q, ← u) s))) ]
+-- the next edge counts where it is the same as the one before it
+pub least-taken : (g : Graph) (i k b e : ℕ) → suc i < g.size → b ≡ edge_at g i → e ≡ edge_at g (suc i) → same g b e ≡ true → Least g (i + 1) k → Least g (i + 2) (min k e)
+least-taken g i k b e l p q s h =
+    let alike : same g (edge_at g i) (edge_at g (suc i)) ≡ true = rw (← p, ← q) s in
+    let repeat : repeats g e ≡ true = rw q (neighbour-repeats g i l alike) in
+    record {
+      most = omega (arith, h.most);
+      some = λ m. elim (dec_le k e) [
+        | yes n ↦ let is : k ≡ min k e = omega arith in subst (λ r. repeats g r ≡ true) is (h.some (omega arith))
+        | no n ↦ let is : e ≡ min k e = omega arith in subst (λ r. repeats g r ≡ true) is repeat
+      ];
+      least = λ j m n t. elim (ℕ_discrete j i) [ yes u ↦ omega (arith, ap (λ j. edge_at g (suc j)) u) | no u ↦ omega (arith, h.least j (omega arith) n t) ];
+    }
 
--- the same, for the place before i and i
-pub least_step : (g : Graph) (i k b e : ℕ) → 1 ≤ i → i < g.size → b ≡ edge_at g (i - 1) → e ≡ edge_at g i → Least g i k
-    → Least g (i + 1) (cond (ltb e k && same g b e) e k)
-least_step g zero k b e l m p q h = absurd (omega arith)
-least_step g (suc i) k b e l m p q h =
-    let one : suc i - 1 ≡ i = omega arith in
-    rw (add-one (suc i)) (least-next g i k b e m (p ∙ ap (edge_at g) one) q h)
+-- and else it does not
+pub least-kept : (g : Graph) (i k b e : ℕ) → b ≡ edge_at g i → e ≡ edge_at g (suc i) → same g b e ≡ false → Least g (i + 1) k → Least g (i + 2) k
+least-kept g i k b e p q s h = grind (arith, nat_tests)
 
 -- at the end it is the first repeat
 pub least-last : (g : Graph) (i k : ℕ) → g.size ≤ i → Least g i k → k ≡ repeat g

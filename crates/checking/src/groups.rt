@@ -1,13 +1,6 @@
 // Whether tables hold groups.
-ghost use Rattle.std.specs.Prelude.{◌&&◌, ◌≡◌, ◌≤◌, leb, length};
+ghost use Rattle.std.specs.Prelude.{◌&&◌, ◌≡◌, ◌≤◌, length};
 ghost use Rattle.network.specs.Groups.{is_group};
-
-// Whether the bytes so far, and this one, are each 0 or 1.
-fn and_fits(fits: bool, byte: u8) -> bool
-    ensures { result ≡ (leb byte 1 && fits) }
-{
-    if byte <= 1 { fits } else { false }
-}
 
 // Whether each of the first n bytes is 0 or 1. It is told without a branch, many bytes at a time.
 fn is_group(group: &[u8], n: usize) -> bool
@@ -15,8 +8,8 @@ fn is_group(group: &[u8], n: usize) -> bool
     ensures { result ≡ is_group n group.now }
 {
     let mut fits = true;
-    for u in 0..n {
-        fits = and_fits(fits, group[u]);
+    for byte in &group[0..n] {
+        fits &= *byte <= 1;
     }
     fits
 }

@@ -4,5 +4,5 @@
 mod checks;
 mod groups;
 
-pub use checks::{file_refusal, is_accepted, old_refusal};
+pub use checks::{check_file, check_old, is_accepted};
 pub use groups::are_groups;

@@ -1,5 +1,5 @@
 -- The least of numbers below 65536 over those that pass a test, found one after the other.
-use Prim.Native.Nat.{ℕ, ◌+◌, ◌<◌, ◌≤◌}
+use Prim.Native.Nat.{ℕ, ◌+◌, ◌-◌, ◌<◌, ◌≤◌}
 use mathlib.Core.Bool.{Bool, true, false, cond, ◌&&◌, false≢true}
 use mathlib.Core.Path.{◌≡◌, refl, sym, ◌∙◌}
 use native.Mathlib.Decide.{dec_le, dec_lt}
@@ -56,6 +56,28 @@ lowest-next {P} {d} {i} {k} o l e = rw e (go (P i && ltb (d i) k) refl)
           low = below_more _ _ o.low (λ q. elim (dec_le k (d i)) [ yes m ↦ m | no m ↦ absurd (false≢true (sym h ∙ and_both q (lt-ltb (d i) k (omega arith)))) ]);
           reached = λ m. let s = o.reached m in record { number = s.number; below = omega (arith, s.below); passes = s.passes };
         }
+
+-- what is found among numbers in a row from f on, counted from there, is found below the last of them where none before f passes
+pub lowest-shift : {P Q : Group} {d e : ℕ → ℕ} {n k : ℕ} (f : ℕ) → ((i : ℕ) → i < n → Q (f + i) ≡ P i) → ((i : ℕ) → i < n → e (f + i) ≡ d i)
+    → ((p : ℕ) → p < f → Q p ≡ false) → Lowest P d n k → Lowest Q e (f + n) k
+lowest-shift {P} {Q} {d} {e} {n} {k} f same value none o =
+    record {
+      small = λ p b h. nth p b h (λ p. e p < 65536) (λ i m t. rw (value i m) (o.small i m t));
+      low = λ p b h. nth p b h (λ p. k ≤ e p) (λ i m t. rw (value i m) (o.low i m t));
+      reached = λ m.
+          let s = o.reached m in
+          record { number = f + s.number; below = omega (arith, s.below); passes = rw (same s.number s.below, value s.number s.below) s.passes };
+    }
+  where
+    nth : (p : ℕ) → p < f + n → Q p ≡ true → (R : ℕ → Type 0) → ((i : ℕ) → i < n → P i ≡ true → R (f + i)) → R p
+    nth p b h R g =
+        elim (dec_lt p f) [
+          | yes m ↦ absurd (false≢true (sym (none p m) ∙ h))
+          | no m ↦
+              let q : f + (p - f) ≡ p = omega arith in
+              let l : p - f < n = omega arith in
+              rw q at (g (p - f) l (sym (same (p - f) l) ∙ rw q h))
+        ]
 
 -- at the end it is the least, where some number passes: that one is no greater than 65535
 pub lowest-ends : {P : Group} {d : ℕ → ℕ} {N k : ℕ} → Lowest P d N k → Some P N → Least P d N k

@@ -1,25 +1,20 @@
 // The three levels by one climb: what is asked of places is raised until the core is empty.
-ghost use Rattle.std.specs.Prelude.{true, false, cond, ◌&&◌, ◌≡◌, ℕ, ◌+◌, ◌*◌, ◌<◌, ◌≤◌, leb, ltb, length};
+ghost use Rattle.std.specs.Prelude.{true, false, ◌≡◌, ℕ, ◌+◌, ◌*◌, ◌<◌, ◌≤◌, leb, ltb, length};
 ghost use Rattle.network.specs.Refusals.{work_length};
 ghost use Rattle.network.specs.File.{most_members};
 ghost use Rattle.peeling.specs.Peeling.{Small, Held, Ended, need_of, degree_of};
 ghost use Rattle.climbing.specs.Climbs.{asked as asked_at, first_rising, end_rising, rising, rests, Some, Least, Climbed};
 
 use crate::Rise;
-use network::wide16;
-use peeling::{Peel, Scope, degrees_at};
+use network::{Extent, Side};
+use peeling::{Peel, Scope};
 use raising::{advance, whole, whole_from};
 
 // What is asked of places at k.
-fn asked(order: usize, size: usize, rise: Rise, fixed: usize, k: usize) -> Scope
-    ensures { result ≡ asked_at order size rise fixed k }
+fn asked(extent: Extent, rise: Rise, fixed: usize, k: usize) -> Scope
+    ensures { result ≡ asked_at extent.order extent.size rise fixed k }
 {
-    let alike = Scope {
-        order,
-        size,
-        x: k,
-        y: k,
-    };
+    let alike = Scope::of(extent, k, k);
     match rise {
         Rise::Targets => Scope { x: fixed, ..alike },
         Rise::Sources => Scope { y: fixed, ..alike },
@@ -50,30 +45,8 @@ fn end_rising(order: usize, rise: Rise) -> usize
     }
 }
 
-// k in 16 bits, or the greatest number of these where it is greater.
-fn narrow(k: usize) -> u16
-    ensures no_more { result ≤ k }
-    ensures exact { k < 65536 → result ≡ k }
-{
-    if 65535 < k {
-        return 65535;
-    }
-    k as u16
-}
-
-// The lesser of `least` and a degree, where that is at least k.
-fn lesser_degree(k: u16, degree: u16, least: u16) -> u16
-    ensures lesser { result ≡ cond (leb k degree && ltb degree least) degree least }
-    ensures fits { degree < 65536 }
-{
-    if degree < k {
-        return least;
-    }
-    if degree < least { degree } else { least }
-}
-
 // The least degree among the places that are left and rise, all of which need k. Only the sides that rise are looked at, and in 16 bits: so
-// the pass can look at many degrees at once.
+// the pass can look at many degrees at once. One that is not enough counts as the greatest number.
 pub fn least_left(work: &[u16], scope: Scope, rise: Rise, k: usize) -> usize
     requires small { Small scope.order scope.size }
     requires long { work_length scope.order scope.size ≤ length work.now }
@@ -82,13 +55,16 @@ pub fn least_left(work: &[u16], scope: Scope, rise: Rise, k: usize) -> usize
     ensures least { Least (rests scope rise work.now) (degree_of scope.order scope.size work.now) (2 * scope.order) result }
     ensures fits { result < 65536 }
 {
-    let at = degrees_at(scope);
-    let enough = narrow(k);
-    let mut least: u16 = 65535;
-    for place in first_rising(scope.order, rise)..end_rising(scope.order, rise) {
-        least = lesser_degree(enough, work[at + place], least);
+    let at = scope.degrees_at();
+    let first = at + first_rising(scope.order, rise);
+    let end = at + end_rising(scope.order, rise);
+    let enough = u16::try_from(k).unwrap_or(u16::MAX);
+    let mut least = u16::MAX;
+    for degree in &work[first..end] {
+        let counted = if *degree < enough { u16::MAX } else { *degree };
+        least = least.min(counted);
     }
-    wide16(least)
+    usize::from(least)
 }
 
 // The peel of the whole graph for what is asked at the start of a climb. Where one side rises, much may be asked of it at once: the peel begins
@@ -99,8 +75,8 @@ fn begin(work: &mut [u16], scope: Scope, rise: Rise) -> Peel
     ensures { Ended false scope work.old work.new result }
 {
     match rise {
-        Rise::Targets => whole_from(work, scope, scope.order),
-        Rise::Sources => whole_from(work, scope, 0),
+        Rise::Targets => whole_from(work, scope, Side::Target),
+        Rise::Sources => whole_from(work, scope, Side::Source),
         Rise::Both => whole(work, scope, false),
     }
 }
@@ -108,28 +84,21 @@ fn begin(work: &mut [u16], scope: Scope, rise: Rise) -> Peel
 // The last k from `start` on at which the core is not empty, or start - 1. Nothing changes up to the least degree that is left on the
 // sides that rise, so k goes straight past it, and at each turn somebody becomes short. The queue is not drained: a peel is over as soon as
 // a side is empty.
-pub fn climb(
-    work: &mut [u16],
-    order: usize,
-    size: usize,
-    rise: Rise,
-    fixed: usize,
-    start: usize,
-) -> usize
-    requires small { Small order size }
-    requires held { Held order size work.old }
+pub fn climb(work: &mut [u16], extent: Extent, rise: Rise, fixed: usize, start: usize) -> usize
+    requires small { Small extent.order extent.size }
+    requires held { Held extent.order extent.size work.old }
     requires start { 1 ≤ start }
-    ensures { Climbed order size rise fixed start work.old work.new result }
+    ensures { Climbed extent.order extent.size rise fixed start work.old work.new result }
 {
     let mut k = start;
-    let mut peel = begin(work, asked(order, size, rise, fixed, start), rise);
+    let mut peel = begin(work, asked(extent, rise, fixed, start), rise);
     let last = loop {
         if peel.is_empty() {
             break k - 1;
         }
-        let scope = asked(order, size, rise, fixed, k);
+        let scope = asked(extent, rise, fixed, k);
         k = least_left(work, scope, rise, k) + 1;
-        peel = advance(peel, work, scope, asked(order, size, rise, fixed, k), false);
+        peel = advance(peel, work, scope, asked(extent, rise, fixed, k), false);
     };
     last
 }

@@ -4,8 +4,6 @@ ghost use Rattle.network.specs.File.{most_members};
 ghost use Rattle.peeling.specs.Peeling.{start_of};
 ghost use Rattle.climbing.specs.Climbs.{Longest};
 
-use network::wide16;
-
 // The length of the longest row of the places from `from` up to `to`: none of them has more edges in a core, so where more is asked of them all,
 // the core is empty.
 pub fn longest_row(work: &[u16], from: usize, to: usize) -> usize
@@ -16,12 +14,9 @@ pub fn longest_row(work: &[u16], from: usize, to: usize) -> usize
     ensures longest { Longest (λ p. leb from p) work.now to result }
     ensures fits { result < 65536 }
 {
-    let mut longest = 0;
-    for place in from..to {
-        let length = work[place + 1] - work[place];
-        if longest < length {
-            longest = length;
-        }
+    let mut longest: u16 = 0;
+    for (start, next) in work[from..to].iter().zip(&work[from + 1..to + 1]) {
+        longest = longest.max(*next - *start);
     }
-    wide16(longest)
+    usize::from(longest)
 }

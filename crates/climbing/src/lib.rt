@@ -5,7 +5,7 @@ mod climbs;
 mod lengths;
 
 // What a climb raises: what targets need, what sources need, or both alike.
-#[derive(Clone, Copy)]
+#[derive(Clone, Copy, PartialEq, Eq, Debug)]
 pub enum Rise {
     Targets,
     Sources,

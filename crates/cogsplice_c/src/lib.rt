@@ -6,6 +6,7 @@ mod numbers;
 mod rows;
 
 ghost use Rattle.std.specs.Prelude.{◌&&◌, ◌≡◌, eqb};
+ghost use Rattle.network.specs.File.{number_told};
 ghost use Rattle.network.specs.Refusals.{row_refusal};
 ghost use Rattle.calls.specs.Calls.{CheckCall, CountCall, WriteCall, OrderCall};
 ghost use Rattle.adjacency.specs.Calls.{by_side, IndexCall};
@@ -14,18 +15,15 @@ ghost use Rattle.finding.specs.Findings.{FindingCall};
 ghost use Rattle.layering.specs.Calls.{LayersCall};
 ghost use Rattle.harmonic.specs.Calls.{HarmonicCall};
 ghost use Rattle.journal.specs.Calls.{JournalCall};
-ghost use Rattle.cogsplice_c.specs.Told.{Told, PartOf, side_of, check_numbers, totals_numbers, write_numbers, journal_numbers, index_numbers, level_numbers, finding_numbers, layers_numbers};
+ghost use Rattle.cogsplice_c.specs.Told.{Told, PartOf, side_of, check_numbers, totals_numbers, write_numbers, index_numbers, level_numbers, finding_numbers, layers_numbers};
 
-use crate::numbers::{
-    check_numbers, finding_numbers, index_numbers, journal_numbers, layers_numbers, level_numbers,
-    totals_numbers, write_numbers,
-};
+use crate::numbers::number_told;
 use crate::rows::part_of;
 use cogsplice::Side;
 
 // The numbers of the check: n and m.
 #[repr(C)]
-#[derive(Clone, Copy)]
+#[derive(Clone, Copy, Debug, PartialEq, Eq)]
 pub struct CheckNumbers {
     pub refusal: u16,
     pub link: u16,
@@ -35,7 +33,7 @@ pub struct CheckNumbers {
 
 // The numbers of the count, of the core and of the harmonic finder: E, |S| and |T|.
 #[repr(C)]
-#[derive(Clone, Copy)]
+#[derive(Clone, Copy, Debug, PartialEq, Eq)]
 pub struct TotalsNumbers {
     pub refusal: u16,
     pub link: u16,
@@ -46,7 +44,7 @@ pub struct TotalsNumbers {
 
 // The numbers of the calls that write a file, the journal too: m.
 #[repr(C)]
-#[derive(Clone, Copy)]
+#[derive(Clone, Copy, Debug, PartialEq, Eq)]
 pub struct WriteNumbers {
     pub refusal: u16,
     pub link: u16,
@@ -55,7 +53,7 @@ pub struct WriteNumbers {
 
 // The numbers of the index.
 #[repr(C)]
-#[derive(Clone, Copy)]
+#[derive(Clone, Copy, Debug, PartialEq, Eq)]
 pub struct IndexNumbers {
     pub refusal: u16,
     pub link: u16,
@@ -63,7 +61,7 @@ pub struct IndexNumbers {
 
 // A row, as a part of the lent rows table.
 #[repr(C)]
-#[derive(Clone, Copy)]
+#[derive(Clone, Copy, Debug, PartialEq, Eq)]
 pub struct RowNumbers {
     pub start: usize,
     pub length: usize,
@@ -72,7 +70,7 @@ pub struct RowNumbers {
 
 // The numbers of the three level calls.
 #[repr(C)]
-#[derive(Clone, Copy)]
+#[derive(Clone, Copy, Debug, PartialEq, Eq)]
 pub struct LevelNumbers {
     pub refusal: u16,
     pub link: u16,
@@ -81,7 +79,7 @@ pub struct LevelNumbers {
 
 // The numbers of the finding.
 #[repr(C)]
-#[derive(Clone, Copy)]
+#[derive(Clone, Copy, Debug, PartialEq, Eq)]
 pub struct FindingNumbers {
     pub refusal: u16,
     pub link: u16,
@@ -95,7 +93,7 @@ pub struct FindingNumbers {
 
 // The number of layers.
 #[repr(C)]
-#[derive(Clone, Copy)]
+#[derive(Clone, Copy, Debug, PartialEq, Eq)]
 pub struct LayersNumbers {
     pub refusal: u16,
     pub link: u16,
@@ -106,28 +104,28 @@ pub struct LayersNumbers {
 pub extern "C" fn cogsplice_check(file: &[u8]) -> CheckNumbers
     ensures { Told (CheckCall file.now) check_numbers result }
 {
-    check_numbers(cogsplice::check(file))
+    cogsplice::check(file).into()
 }
 
 #[unsafe(no_mangle)]
 pub extern "C" fn cogsplice_count(file: &[u8], s: &[u8], t: &[u8]) -> TotalsNumbers
     ensures { Told (CountCall file.now s.now t.now) totals_numbers result }
 {
-    totals_numbers(cogsplice::count(file, s, t))
+    cogsplice::count(file, s, t).into()
 }
 
 #[unsafe(no_mangle)]
 pub extern "C" fn cogsplice_write(file: &[u8], out: &mut [u8]) -> WriteNumbers
     ensures { Told (WriteCall file.now out.old out.new) write_numbers result }
 {
-    write_numbers(cogsplice::write(file, out))
+    cogsplice::write(file, out).into()
 }
 
 #[unsafe(no_mangle)]
 pub extern "C" fn cogsplice_order(file: &[u8], out: &mut [u8]) -> WriteNumbers
     ensures { Told (OrderCall file.now out.old out.new) write_numbers result }
 {
-    write_numbers(cogsplice::order(file, out))
+    cogsplice::order(file, out).into()
 }
 
 #[unsafe(no_mangle)]
@@ -144,7 +142,7 @@ pub extern "C" fn cogsplice_index(
         in_starts.old in_starts.new
         in_rows.old in_rows.new) index_numbers result }
 {
-    index_numbers(cogsplice::index(file, out_starts, out_rows, in_starts, in_rows))
+    cogsplice::index(file, out_starts, out_rows, in_starts, in_rows).into()
 }
 
 // The side that a C program names: the vouched one where it says so.
@@ -178,6 +176,7 @@ pub extern "C" fn cogsplice_row(
     part_of(out_starts, out_rows, member)
 }
 
+// C gets the number of the refusal, or 0.
 #[unsafe(no_mangle)]
 pub extern "C" fn cogsplice_row_refusal(
     vouched: bool,
@@ -187,19 +186,19 @@ pub extern "C" fn cogsplice_row_refusal(
     in_starts: &[u16],
     in_rows: &[u16],
 ) -> u16
-    ensures { result ≡ (row_refusal
+    ensures { result ≡ number_told (row_refusal
         (by_side (side_of vouched) out_starts.now in_starts.now)
         (by_side (side_of vouched) out_rows.now in_rows.now)
-        member).number }
+        member) }
 {
-    cogsplice::row_refusal(
+    number_told(cogsplice::row_refusal(
         side_of(vouched),
         member,
         out_starts,
         out_rows,
         in_starts,
         in_rows,
-    )
+    ))
 }
 
 #[unsafe(no_mangle)]
@@ -215,7 +214,7 @@ pub extern "C" fn cogsplice_core(
 ) -> TotalsNumbers
     ensures { Told (CoreCall file.now a.now b.now x y s.old s.new t.old t.new work.old work.new) totals_numbers result }
 {
-    totals_numbers(cogsplice::core(file, a, b, x, y, s, t, work))
+    cogsplice::core(file, a, b, x, y, s, t, work).into()
 }
 
 #[unsafe(no_mangle)]
@@ -228,7 +227,7 @@ pub extern "C" fn cogsplice_level(
 ) -> LevelNumbers
     ensures { Told (LevelCall file.now a.now b.now x work.old work.new) level_numbers result }
 {
-    level_numbers(cogsplice::level(file, a, b, x, work))
+    cogsplice::level(file, a, b, x, work).into()
 }
 
 #[unsafe(no_mangle)]
@@ -241,7 +240,7 @@ pub extern "C" fn cogsplice_level_across(
 ) -> LevelNumbers
     ensures { Told (LevelAcrossCall file.now a.now b.now y work.old work.new) level_numbers result }
 {
-    level_numbers(cogsplice::level_across(file, a, b, y, work))
+    cogsplice::level_across(file, a, b, y, work).into()
 }
 
 #[unsafe(no_mangle)]
@@ -253,7 +252,7 @@ pub extern "C" fn cogsplice_equal_level(
 ) -> LevelNumbers
     ensures { Told (EqualLevelCall file.now a.now b.now work.old work.new) level_numbers result }
 {
-    level_numbers(cogsplice::equal_level(file, a, b, work))
+    cogsplice::equal_level(file, a, b, work).into()
 }
 
 #[unsafe(no_mangle)]
@@ -267,7 +266,7 @@ pub extern "C" fn cogsplice_finding(
 ) -> FindingNumbers
     ensures { Told (FindingCall file.now a.now b.now s.old s.new t.old t.new work.old work.new) finding_numbers result }
 {
-    finding_numbers(cogsplice::finding(file, a, b, s, t, work))
+    cogsplice::finding(file, a, b, s, t, work).into()
 }
 
 #[unsafe(no_mangle)]
@@ -280,7 +279,7 @@ pub extern "C" fn cogsplice_layers(
 ) -> LayersNumbers
     ensures { Told (LayersCall file.now a.now b.now layers.old layers.new work.old work.new) layers_numbers result }
 {
-    layers_numbers(cogsplice::layers(file, a, b, layers, work))
+    cogsplice::layers(file, a, b, layers, work).into()
 }
 
 #[unsafe(no_mangle)]
@@ -292,7 +291,7 @@ pub extern "C" fn cogsplice_harmonic(
 ) -> TotalsNumbers
     ensures { Told (HarmonicCall file.now s.old s.new t.old t.new work.old work.new) totals_numbers result }
 {
-    totals_numbers(cogsplice::harmonic(file, s, t, work))
+    cogsplice::harmonic(file, s, t, work).into()
 }
 
 #[unsafe(no_mangle)]
@@ -303,9 +302,9 @@ pub extern "C" fn cogsplice_journal(
     numbers: &mut [u8],
     work: &mut [u16],
 ) -> WriteNumbers
-    ensures { Told (JournalCall journal.now asked out.old out.new numbers.old numbers.new work.old work.new) journal_numbers result }
+    ensures { Told (JournalCall journal.now asked out.old out.new numbers.old numbers.new work.old work.new) write_numbers result }
 {
-    journal_numbers(cogsplice::journal(journal, asked, out, numbers, work))
+    cogsplice::journal(journal, asked, out, numbers, work).into()
 }
 
 #[unsafe(no_mangle)]

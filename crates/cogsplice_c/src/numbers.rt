@@ -1,162 +1,135 @@
 // 01's numbers of each answer.
 ghost use Rattle.std.specs.Prelude.{◌≡◌};
-ghost use Rattle.cogsplice_c.specs.Told.{check_numbers, totals_numbers, write_numbers, journal_numbers, index_numbers, level_numbers, finding_numbers, layers_numbers};
+ghost use Rattle.network.specs.File.{number_told};
+ghost use Rattle.cogsplice_c.specs.Told.{check_numbers, totals_numbers, write_numbers, index_numbers, level_numbers, finding_numbers, layers_numbers};
+ghost use Rattle.cogsplice_c.specs.Parts.{parts};
 
 use crate::{
     CheckNumbers, FindingNumbers, IndexNumbers, LayersNumbers, LevelNumbers, TotalsNumbers,
     WriteNumbers,
 };
-use cogsplice::{
-    CheckAnswer, FindingAnswer, IndexAnswer, JournalAnswer, LayersAnswer, LevelAnswer,
-    TotalsAnswer, WriteAnswer,
+use cogsplice::{Extent, Refusal, Ring, Totals};
+
+const NO_TOTALS: Totals = Totals {
+    edges: 0,
+    sources: 0,
+    targets: 0,
 };
 
-pub fn check_numbers(answer: CheckAnswer) -> CheckNumbers
-    ensures { result ≡ check_numbers answer }
+const NO_RING: Ring = Ring {
+    x: 0,
+    y: 0,
+    equal: 0,
+    totals: NO_TOTALS,
+};
+
+// The number of a refusal, or 0.
+pub fn number_told(refusal: Option<Refusal>) -> u16
+    ensures { result ≡ number_told refusal }
 {
-    match answer {
-        CheckAnswer::Accepted { order, size } => CheckNumbers {
-            refusal: 0,
-            link: 0,
-            n: order,
-            m: size,
-        },
-        CheckAnswer::Refused(refusal) => CheckNumbers {
-            refusal: refusal.number,
-            link: refusal.link,
-            n: 0,
-            m: 0,
-        },
+    match refusal {
+        Some(refusal) => refusal.number(),
+        None => 0,
     }
 }
 
-pub fn totals_numbers(answer: TotalsAnswer) -> TotalsNumbers
-    ensures { result ≡ totals_numbers answer }
+// The refusal's number, its link's and the values: zeros for what an answer does not tell.
+fn parts<T: Copy>(answer: Result<T, Refusal>, zeros: T) -> (u16, u16, T)
+    ensures { result ≡ parts answer zeros }
 {
     match answer {
-        TotalsAnswer::Counted(totals) => TotalsNumbers {
-            refusal: 0,
-            link: 0,
+        Ok(values) => (0, 0, values),
+        Err(refusal) => (refusal.number(), refusal.link().unwrap_or(0), zeros),
+    }
+}
+
+impl From<Result<Extent, Refusal>> for CheckNumbers {
+    ghost from_gives = { λ a n. n ≡ check_numbers a };
+
+    fn from(answer: Result<Extent, Refusal>) -> CheckNumbers {
+        let (refusal, link, extent) = parts(answer, Extent { order: 0, size: 0 });
+        CheckNumbers {
+            refusal,
+            link,
+            n: extent.order,
+            m: extent.size,
+        }
+    }
+}
+
+impl From<Result<Totals, Refusal>> for TotalsNumbers {
+    ghost from_gives = { λ a n. n ≡ totals_numbers a };
+
+    fn from(answer: Result<Totals, Refusal>) -> TotalsNumbers {
+        let (refusal, link, totals) = parts(answer, NO_TOTALS);
+        TotalsNumbers {
+            refusal,
+            link,
             edges: totals.edges,
             sources: totals.sources,
             targets: totals.targets,
-        },
-        TotalsAnswer::Refused(refusal) => TotalsNumbers {
-            refusal: refusal.number,
-            link: refusal.link,
-            edges: 0,
-            sources: 0,
-            targets: 0,
-        },
+        }
     }
 }
 
-pub fn write_numbers(answer: WriteAnswer) -> WriteNumbers
-    ensures { result ≡ write_numbers answer }
-{
-    match answer {
-        WriteAnswer::Written { size } => WriteNumbers {
-            refusal: 0,
-            link: 0,
-            m: size,
-        },
-        WriteAnswer::Refused(refusal) => WriteNumbers {
-            refusal: refusal.number,
-            link: refusal.link,
-            m: 0,
-        },
+impl From<Result<usize, Refusal>> for WriteNumbers {
+    ghost from_gives = { λ a n. n ≡ write_numbers a };
+
+    fn from(answer: Result<usize, Refusal>) -> WriteNumbers {
+        let (refusal, link, m) = parts(answer, 0);
+        WriteNumbers { refusal, link, m }
     }
 }
 
-pub fn journal_numbers(answer: JournalAnswer) -> WriteNumbers
-    ensures { result ≡ journal_numbers answer }
-{
-    match answer {
-        JournalAnswer::Written { size } => WriteNumbers {
-            refusal: 0,
-            link: 0,
-            m: size,
-        },
-        JournalAnswer::Refused(refusal) => WriteNumbers {
-            refusal: refusal.number,
-            link: refusal.link,
-            m: 0,
-        },
+impl From<Result<(), Refusal>> for IndexNumbers {
+    ghost from_gives = { λ a n. n ≡ index_numbers a };
+
+    fn from(answer: Result<(), Refusal>) -> IndexNumbers {
+        let (refusal, link, ()) = parts(answer, ());
+        IndexNumbers { refusal, link }
     }
 }
 
-pub fn index_numbers(answer: IndexAnswer) -> IndexNumbers
-    ensures { result ≡ index_numbers answer }
-{
-    match answer {
-        IndexAnswer::Done => IndexNumbers {
-            refusal: 0,
-            link: 0,
-        },
-        IndexAnswer::Refused(refusal) => IndexNumbers {
-            refusal: refusal.number,
-            link: refusal.link,
-        },
-    }
-}
+impl From<Result<usize, Refusal>> for LevelNumbers {
+    ghost from_gives = { λ a n. n ≡ level_numbers a };
 
-pub fn level_numbers(answer: LevelAnswer) -> LevelNumbers
-    ensures { result ≡ level_numbers answer }
-{
-    match answer {
-        LevelAnswer::At(level) => LevelNumbers {
-            refusal: 0,
-            link: 0,
+    fn from(answer: Result<usize, Refusal>) -> LevelNumbers {
+        let (refusal, link, level) = parts(answer, 0);
+        LevelNumbers {
+            refusal,
+            link,
             level,
-        },
-        LevelAnswer::Refused(refusal) => LevelNumbers {
-            refusal: refusal.number,
-            link: refusal.link,
-            level: 0,
-        },
+        }
     }
 }
 
-pub fn finding_numbers(answer: FindingAnswer) -> FindingNumbers
-    ensures { result ≡ finding_numbers answer }
-{
-    match answer {
-        FindingAnswer::Found(ring) => FindingNumbers {
-            refusal: 0,
-            link: 0,
+impl From<Result<Ring, Refusal>> for FindingNumbers {
+    ghost from_gives = { λ a n. n ≡ finding_numbers a };
+
+    fn from(answer: Result<Ring, Refusal>) -> FindingNumbers {
+        let (refusal, link, ring) = parts(answer, NO_RING);
+        FindingNumbers {
+            refusal,
+            link,
             edges: ring.totals.edges,
             x: ring.x,
             y: ring.y,
             equal: ring.equal,
             sources: ring.totals.sources,
             targets: ring.totals.targets,
-        },
-        FindingAnswer::Refused(refusal) => FindingNumbers {
-            refusal: refusal.number,
-            link: refusal.link,
-            edges: 0,
-            x: 0,
-            y: 0,
-            equal: 0,
-            sources: 0,
-            targets: 0,
-        },
+        }
     }
 }
 
-pub fn layers_numbers(answer: LayersAnswer) -> LayersNumbers
-    ensures { result ≡ layers_numbers answer }
-{
-    match answer {
-        LayersAnswer::Made(layers) => LayersNumbers {
-            refusal: 0,
-            link: 0,
+impl From<Result<usize, Refusal>> for LayersNumbers {
+    ghost from_gives = { λ a n. n ≡ layers_numbers a };
+
+    fn from(answer: Result<usize, Refusal>) -> LayersNumbers {
+        let (refusal, link, layers) = parts(answer, 0);
+        LayersNumbers {
+            refusal,
+            link,
             layers,
-        },
-        LayersAnswer::Refused(refusal) => LayersNumbers {
-            refusal: refusal.number,
-            link: refusal.link,
-            layers: 0,
-        },
+        }
     }
 }

@@ -2,16 +2,15 @@
 use Prim.Native.Nat.{ℕ, ◌≤◌}
 use mathlib.Core.Bool.{true}
 use mathlib.Core.List.{List}
-use mathlib.Core.Logic.{◌≢◌}
-use mathlib.Core.Path.{◌≡◌, sym, ◌∙◌}
-use native.Mathlib.Decide.{dec_le}
+use mathlib.Core.Path.{◌≡◌, refl, sym, ◌∙◌}
 use native.Mathlib.Omega.{arith}
 use borrow.Author.Tests.{le-ltb}
 use lib.ListN.{length, replicate, get_or-replicate, length-replicate}
+use Rattle.std.specs.Prelude.{Option, None, Some}
+use Rattle.network.specs.declared.Refusal.{Refusal}
 use Rattle.network.specs.File.{most_members, graph_of, file_refusal}
 use Rattle.network.specs.Groups.{is_group, AllIn}
 use Rattle.network.specs.Refusals.{core_refusal, harmonic_refusal}
-use Rattle.network.proofs.Accepted.{file-proper}
 use Rattle.network.proofs.Accepted as file
 use Rattle.network.proofs.Groups.{byte-group}
 use Rattle.network.proofs.Answers.{or_else-first}
@@ -31,9 +30,10 @@ ones-group n h = byte-group n ones (λ u l. omega (arith, ones-all n h u l))
 -- and with it as A and B the file and the lengths of the other tables alone decide
 pub ones-refusal : (f : List ℕ) (s t w : ℕ) → core_refusal f ones ones s t w ≡ harmonic_refusal f s t w
 unfolding core_refusal harmonic_refusal
-ones-refusal f s t w =
-    elim (dec_le (file_refusal f).number 0) [
-      | no n ↦ let some : (file_refusal f).number ≢ 0 = λ i. n (omega (arith, i)) in or_else-first {r = file_refusal f} _ some ∙ sym (or_else-first _ some)
-      | yes z ↦ let h = ((file.accepted f).0 ((file-proper f).number-none (omega (arith, z)))).sound.header in
-          rw (le-ltb (length ones) (graph_of f).order (omega (arith, length-replicate {A = ℕ} most_members 1, h.order-most)), ones-group (graph_of f).order h.order-most)
-    ]
+ones-refusal f s t w = go (file_refusal f) refl
+  where
+    go : (r : Option Refusal) → file_refusal f ≡ r → core_refusal f ones ones s t w ≡ harmonic_refusal f s t w
+    go (Some q) e = or_else-first _ e ∙ sym (or_else-first _ e)
+    go None e =
+        let h = ((file.accepted f).0 e).sound.header in
+        rw (le-ltb (length ones) (graph_of f).order (omega (arith, length-replicate {A = ℕ} most_members 1, h.order-most)), ones-group (graph_of f).order h.order-most)

@@ -1,5 +1,5 @@
 -- What the calls on cores and levels inside A and B promise.
-use Rattle.std.specs.Prelude.{ℕ, List, [], ◌∷◌, ◌≡◌, length, drop}
+use Rattle.std.specs.Prelude.{ℕ, List, [], ◌∷◌, ◌≡◌, Option, Result, length, drop}
 use Rattle.graph.specs.Core.{Inside, CoreInside, LevelInside, LevelAcrossInside, EqualLevelInside}
 use Rattle.network.specs.declared.Refusal.{Refusal}
 use Rattle.network.specs.declared.Totals.{Totals}
@@ -7,9 +7,6 @@ use Rattle.network.specs.File.{graph_of}
 use Rattle.network.specs.Groups.{group_of, Among, GroupIn, totals}
 use Rattle.network.specs.Refusals.{work_length, core_refusal, level_refusal, equal_level_refusal}
 use Rattle.network.specs.Calls.{Call}
-use Rattle.network.specs.declared.TotalsAnswer.{TotalsAnswer}
-use Rattle.network.specs.declared.TotalsAnswer.TheVariants.{Counted, Refused}
-use Rattle.cores.specs.declared.LevelAnswer as answer
 
 -- what lies past the entries that a work table needs is unchanged
 abbrev pub WorkKept : List ℕ → List ℕ → List ℕ → Type 0
@@ -32,25 +29,25 @@ pub record CoreTold (f a b : List ℕ) (x y : ℕ) (s s' t t' w w' : List ℕ) (
   pub groups : GroupsTold f s s' t t' w w' c
 
 -- the core
-abbrev pub CoreCall : (f a b : List ℕ) (x y : ℕ) (s s' t t' w w' : List ℕ) → TotalsAnswer → Type 0
+abbrev pub CoreCall : (f a b : List ℕ) (x y : ℕ) (s s' t t' w w' : List ℕ) → Result Totals Refusal → Type 0
 CoreCall f a b x y s s' t t' w w' =
-    Call (core_refusal f a b (length s) (length t) (length w)) Refused Counted (s ∷ t ∷ w ∷ []) (s' ∷ t' ∷ w' ∷ [])
+    Call (core_refusal f a b (length s) (length t) (length w)) (s ∷ t ∷ w ∷ []) (s' ∷ t' ∷ w' ∷ [])
     (CoreTold f a b x y s s' t t' w w')
 
 -- a level of some kind
-abbrev pub LevelBy : Refusal → List ℕ → (ℕ → Type 0) → List ℕ → List ℕ → answer.LevelAnswer → Type 0
+abbrev pub LevelBy : Option Refusal → List ℕ → (ℕ → Type 0) → List ℕ → List ℕ → Result ℕ Refusal → Type 0
 LevelBy refusal f level w w' =
-    Call refusal answer.TheVariants.Refused answer.TheVariants.At (w ∷ []) (w' ∷ [])
+    Call refusal (w ∷ []) (w' ∷ [])
     (λ k. level k × WorkKept f w w')
 
 -- the level of x
-abbrev pub LevelCall : List ℕ → List ℕ → List ℕ → ℕ → List ℕ → List ℕ → answer.LevelAnswer → Type 0
+abbrev pub LevelCall : List ℕ → List ℕ → List ℕ → ℕ → List ℕ → List ℕ → Result ℕ Refusal → Type 0
 LevelCall f a b x w w' = LevelBy (level_refusal f a b x (length w)) f (λ k. Among (graph_of f).order a b (λ A B. LevelInside (graph_of f) A B x k)) w w'
 
 -- the level across, for y
-abbrev pub LevelAcrossCall : List ℕ → List ℕ → List ℕ → ℕ → List ℕ → List ℕ → answer.LevelAnswer → Type 0
+abbrev pub LevelAcrossCall : List ℕ → List ℕ → List ℕ → ℕ → List ℕ → List ℕ → Result ℕ Refusal → Type 0
 LevelAcrossCall f a b y w w' = LevelBy (level_refusal f a b y (length w)) f (λ k. Among (graph_of f).order a b (λ A B. LevelAcrossInside (graph_of f) A B y k)) w w'
 
 -- the equal level
-abbrev pub EqualLevelCall : List ℕ → List ℕ → List ℕ → List ℕ → List ℕ → answer.LevelAnswer → Type 0
+abbrev pub EqualLevelCall : List ℕ → List ℕ → List ℕ → List ℕ → List ℕ → Result ℕ Refusal → Type 0
 EqualLevelCall f a b w w' = LevelBy (equal_level_refusal f a b (length w)) f (λ k. Among (graph_of f).order a b (λ A B. EqualLevelInside (graph_of f) A B k)) w w'

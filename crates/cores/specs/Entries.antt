@@ -1,9 +1,11 @@
 -- The one way into a call on cores: what it refuses, and what it leaves for the call.
-use Rattle.std.specs.Prelude.{ℕ, ◌≤◌, cond, ◌||◌, List, [], ◌∷◌, ◌++◌, ◌≢◌, ◌≡◌, eqb, ltb, length, drop}
+use Rattle.std.specs.Prelude.{ℕ, ◌≤◌, cond, ◌||◌, List, [], ◌∷◌, ◌++◌, ◌≢◌, ◌≡◌, Option, None, Some, Result, eqb, ltb, length, drop}
 use Rattle.graph.specs.Range.{sum, if}
 use Rattle.graph.specs.Within.{within}
 use Rattle.network.specs.declared.Refusal.{Refusal}
-use Rattle.network.specs.File.{graph_of, none, plain, or_else, file_refusal}
+use Rattle.network.specs.declared.Refusal.TheVariants.{Table, Zero}
+use Rattle.network.specs.declared.Extent.{Extent}
+use Rattle.network.specs.File.{graph_of, or_else, file_refusal}
 use Rattle.network.specs.Groups.{group_of, bytes_of}
 use Rattle.network.specs.Refusals.{short_groups, in_groups, work_length}
 use Rattle.network.specs.Accepted.{Accepted}
@@ -11,24 +13,20 @@ use Rattle.network.specs.Calls.{Call}
 use Rattle.peeling.specs.Peeling.{Tabled}
 use Rattle.climbing.specs.declared.Rise.{Rise}
 use Rattle.climbing.specs.Climbs.{LevelOf}
-use Rattle.cores.specs.declared.Ask.{Ask}
-use Rattle.cores.specs.declared.Ask.TheVariants.{Nothing, NotZero}
-use Rattle.cores.specs.declared.Entry.{Entry}
-use Rattle.cores.specs.declared.Entry.TheVariants.{Ready, Refused}
 use Rattle.cores.specs.Calls.{WorkKept}
 
--- what is asked of a call beside the file and its tables
-abbrev pub ask_refusal : Ask → Refusal
-ask_refusal Nothing = none
-ask_refusal (NotZero x) = cond (eqb x 0) (plain 12) none
+-- what is asked of a call beside the file and its tables: nothing, or a number that is not 0
+abbrev pub ask_refusal : Option ℕ → Option Refusal
+ask_refusal None = None
+ask_refusal (Some x) = cond (eqb x 0) (Some Zero) None
 
 -- what comes after the file's own numbers, for n members and m links, A and B, and the lengths of two groups and of the work table
-unfoldable pub later_refusal : Ask → ℕ → ℕ → List ℕ → List ℕ → ℕ → ℕ → ℕ → Refusal
+unfoldable pub later_refusal : Option ℕ → ℕ → ℕ → List ℕ → List ℕ → ℕ → ℕ → ℕ → Option Refusal
 later_refusal ask n m a b s t w =
-    cond (short_groups n a b || ltb s n || ltb t n || ltb w (work_length n m)) (plain 9) (in_groups n a b (ask_refusal ask))
+    cond (short_groups n a b || ltb s n || ltb t n || ltb w (work_length n m)) (Some Table) (in_groups n a b (ask_refusal ask))
 
 -- the refusal at the way in
-unfoldable pub entry_refusal : Ask → List ℕ → List ℕ → List ℕ → ℕ → ℕ → ℕ → Refusal
+unfoldable pub entry_refusal : Option ℕ → List ℕ → List ℕ → List ℕ → ℕ → ℕ → ℕ → Option Refusal
 entry_refusal ask f a b s t w = or_else (file_refusal f) (later_refusal ask (graph_of f).order (graph_of f).size a b s t w)
 
 -- the tables of A and B, groups of the lengths s and t and the work table are long enough for n members and m links
@@ -49,10 +47,9 @@ pub record Entered (f a b : List ℕ) (s t : ℕ) (w w' : List ℕ) (n m : ℕ) 
   pub work : WorkKept f w w'
 
 -- the way in: n, and the number of links from A to B
-abbrev pub EntryCall : List ℕ → List ℕ → List ℕ → Ask → ℕ → ℕ → List ℕ → List ℕ → Entry → Type 0
+abbrev pub EntryCall : List ℕ → List ℕ → List ℕ → Option ℕ → ℕ → ℕ → List ℕ → List ℕ → Result Extent Refusal → Type 0
 EntryCall f a b ask s t w w' =
-    Call (entry_refusal ask f a b s t (length w)) Refused (λ (n, m). Ready n m) (w ∷ []) (w' ∷ [])
-    (λ (n, m). Entered f a b s t w w' n m)
+    Call (entry_refusal ask f a b s t (length w)) (w ∷ []) (w' ∷ []) (λ e. Entered f a b s t w w' e.order e.size)
 
 -- the links from A to B have this level, of its kind
 abbrev pub LevelWithin : List ℕ → List ℕ → List ℕ → Rise → ℕ → ℕ → Type 0

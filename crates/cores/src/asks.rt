@@ -5,10 +5,9 @@ ghost use Rattle.cores.specs.Calls.{CoreCall, LevelBy, LevelCall, LevelAcrossCal
 
 use crate::entries::enter;
 use crate::groups::keep_inside;
-use crate::{Ask, Entry, LevelAnswer};
 use climbing::{Rise, climb};
 use grouping::core_in;
-use network::{Totals, TotalsAnswer, wide16};
+use network::{Refusal, Totals};
 use peeling::Scope;
 
 // 01: the core call, inside A and B.
@@ -21,27 +20,17 @@ pub fn core(
     s: &mut [u8],
     t: &mut [u8],
     work: &mut [u16],
-) -> TotalsAnswer
+) -> Result<Totals, Refusal>
     ensures { CoreCall file.now a.now b.now x y s.old s.new t.old t.new work.old work.new result }
 {
-    let entry = enter(file, a, b, Ask::Nothing, s.len(), t.len(), work);
-    match entry {
-        Entry::Refused(refusal) => TotalsAnswer::Refused(refusal),
-        Entry::Ready { order, size } => {
-            let scope = Scope {
-                order,
-                size,
-                x: wide16(x),
-                y: wide16(y),
-            };
-            let totals = core_in(work, scope, s, t);
-            TotalsAnswer::Counted(Totals {
-                edges: totals.edges,
-                sources: keep_inside(x, a, order, s, totals.sources),
-                targets: keep_inside(y, b, order, t, totals.targets),
-            })
-        }
-    }
+    let extent = enter(file, a, b, None, s.len(), t.len(), work)?;
+    let scope = Scope::of(extent, usize::from(x), usize::from(y));
+    let totals = core_in(work, scope, s, t);
+    Ok(Totals {
+        edges: totals.edges,
+        sources: keep_inside(x, a, extent.order, s, totals.sources),
+        targets: keep_inside(y, b, extent.order, t, totals.targets),
+    })
 }
 
 // A level of its kind, of the links from A to B. It has no groups to write: for these the length of the work table stands, which is never the one
@@ -52,36 +41,39 @@ fn level_along(
     b: &[u8],
     rise: Rise,
     fixed: usize,
-    ask: Ask,
+    ask: Option<u16>,
     work: &mut [u16],
-) -> LevelAnswer
+) -> Result<usize, Refusal>
     ensures { LevelBy (entry_refusal ask file.now a.now b.now (length work.old) (length work.old) (length work.old)) file.now (LevelWithin file.now a.now b.now rise fixed) work.old work.new result }
 {
     let length = work.len();
-    let entry = enter(file, a, b, ask, length, length, work);
-    match entry {
-        Entry::Refused(refusal) => LevelAnswer::Refused(refusal),
-        Entry::Ready { order, size } => LevelAnswer::At(climb(work, order, size, rise, fixed, 1)),
-    }
+    let extent = enter(file, a, b, ask, length, length, work)?;
+    Ok(climb(work, extent, rise, fixed, 1))
 }
 
 // 01: the level of x.
-pub fn level(file: &[u8], a: &[u8], b: &[u8], x: u16, work: &mut [u16]) -> LevelAnswer
+pub fn level(file: &[u8], a: &[u8], b: &[u8], x: u16, work: &mut [u16]) -> Result<usize, Refusal>
     ensures { LevelCall file.now a.now b.now x work.old work.new result }
 {
-    level_along(file, a, b, Rise::Targets, wide16(x), Ask::NotZero(x), work)
+    level_along(file, a, b, Rise::Targets, usize::from(x), Some(x), work)
 }
 
-// 01: the level across, for y.
-pub fn level_across(file: &[u8], a: &[u8], b: &[u8], y: u16, work: &mut [u16]) -> LevelAnswer
+// 01: the level across, for y: the same function by another side.
+pub fn level_across(
+    file: &[u8],
+    a: &[u8],
+    b: &[u8],
+    y: u16,
+    work: &mut [u16],
+) -> Result<usize, Refusal>
     ensures { LevelAcrossCall file.now a.now b.now y work.old work.new result }
 {
-    level_along(file, a, b, Rise::Sources, wide16(y), Ask::NotZero(y), work)
+    level_along(file, a, b, Rise::Sources, usize::from(y), Some(y), work)
 }
 
 // 01: the equal level.
-pub fn equal_level(file: &[u8], a: &[u8], b: &[u8], work: &mut [u16]) -> LevelAnswer
+pub fn equal_level(file: &[u8], a: &[u8], b: &[u8], work: &mut [u16]) -> Result<usize, Refusal>
     ensures { EqualLevelCall file.now a.now b.now work.old work.new result }
 {
-    level_along(file, a, b, Rise::Both, 0, Ask::Nothing, work)
+    level_along(file, a, b, Rise::Both, 0, None, work)
 }

@@ -1,13 +1,12 @@
 // The one way in: the file and the tables are checked, and the links from A to B are laid into the work table.
-ghost use Rattle.std.specs.Prelude.{◌≤◌, ◌||◌, ◌≡◌, ltb};
-ghost use Rattle.network.specs.File.{most_members, most_links, plain};
+ghost use Rattle.std.specs.Prelude.{◌≤◌, ◌||◌, ◌≡◌, ltb, None, Some, IfErr, OnOk};
+ghost use Rattle.network.specs.File.{most_members, most_links};
 ghost use Rattle.network.specs.Refusals.{short_groups, work_length};
 ghost use Rattle.cores.specs.Entries.{later_refusal, EntryCall};
 
-use crate::{Ask, Entry};
-use checking::{are_groups, file_refusal};
+use checking::{are_groups, check_file};
 use filling::fill_within;
-use network::{Refusal, order_of, size_of, work_length};
+use network::{Extent, Refusal, order_of, size_of, work_length};
 
 // Whether a table is short for n members and m links: of A, of B, of one of two groups, or the work table.
 fn is_short(n: usize, m: usize, a: &[u8], b: &[u8], s: usize, t: usize, work: usize) -> bool
@@ -17,10 +16,10 @@ fn is_short(n: usize, m: usize, a: &[u8], b: &[u8], s: usize, t: usize, work: us
     a.len() < n || b.len() < n || s < n || t < n || work < work_length(n, m)
 }
 
-// The number that comes after the file's own, for n members and m links: 9, then 11, then by what is asked 12, or 0.
+// What comes after the file's own tests, for n members and m links: 9, then 11, then 12 for a number that is asked for.
 #[tactic(auto, unfolding(crate::specs::Entries::later_refusal))]
-pub fn later_number(
-    ask: Ask,
+pub fn check_later(
+    ask: Option<u16>,
     n: usize,
     m: usize,
     a: &[u8],
@@ -28,44 +27,39 @@ pub fn later_number(
     s: usize,
     t: usize,
     work: usize,
-) -> u16
+) -> Result<(), Refusal>
     requires { (n ≤ most_members) × (m ≤ most_links) }
-    ensures { plain result ≡ later_refusal ask n m a.now b.now s t work }
+    ensures refused { IfErr result (λ r. later_refusal ask n m a.now b.now s t work ≡ Some r) }
+    ensures passed { OnOk result (later_refusal ask n m a.now b.now s t work ≡ None) }
 {
     if is_short(n, m, a, b, s, t, work) {
-        return 9;
+        return Err(Refusal::Table);
     }
     if !are_groups(a, b, n) {
-        return 11;
+        return Err(Refusal::Group);
     }
-    match ask {
-        Ask::Nothing => 0,
-        Ask::NotZero(number) => if number == 0 { 12 } else { 0 },
+    if ask == Some(0) {
+        return Err(Refusal::Zero);
     }
+    Ok(())
 }
 
 // Every call on cores begins here: the file, then the lengths of A and B, of two groups and of the work table, then the bytes of A and B, then
-// what else is asked. Where nothing is refused, the work table holds the links from A to B.
+// the number that is asked for, if one is. Where nothing is refused, the work table holds the links from A to B; how many they are is the size.
 pub fn enter(
     file: &[u8],
     a: &[u8],
     b: &[u8],
-    ask: Ask,
+    ask: Option<u16>,
     s: usize,
     t: usize,
     work: &mut [u16],
-) -> Entry
+) -> Result<Extent, Refusal>
     ensures { EntryCall file.now a.now b.now ask s t work.old work.new result }
 {
-    let refusal = file_refusal(file);
-    if refusal.number != 0 {
-        return Entry::Refused(refusal);
-    }
+    check_file(file)?;
     let order = order_of(file);
-    let number = later_number(ask, order, size_of(file), a, b, s, t, work.len());
-    if number != 0 {
-        return Entry::Refused(Refusal::plain(number));
-    }
+    check_later(ask, order, size_of(file), a, b, s, t, work.len())?;
     let size = fill_within(file, a, b, work);
-    Entry::Ready { order, size }
+    Ok(Extent { order, size })
 }

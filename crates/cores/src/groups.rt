@@ -1,17 +1,7 @@
 // The groups of a core inside A and B. They are read off a core of the links from A to B alone, and for a need of at least 1 they lie inside as they
 // are: whoever is in has such a link. For a need of 0 that core has everyone, and the group is A, or B, itself.
-ghost use Rattle.std.specs.Prelude.{◌≡◌, ◌≤◌, eqb, length};
-ghost use Rattle.graph.specs.Range.{if};
+ghost use Rattle.std.specs.Prelude.{◌≤◌, length};
 ghost use Rattle.cores.specs.Entries.{Copied, KeptInside};
-
-use network::wide;
-
-// 1 for a byte that says in, else 0.
-fn byte_in(byte: u8) -> u8
-    ensures { result ≡ if (eqb byte 1) 1 }
-{
-    if byte == 1 { 1 } else { 0 }
-}
 
 // A group of n members written to another table, and how many they are.
 fn copy_group(from: &[u8], n: usize, group: &mut [u8]) -> usize
@@ -19,10 +9,10 @@ fn copy_group(from: &[u8], n: usize, group: &mut [u8]) -> usize
     ensures { Copied n from.now group.old group.new result }
 {
     let mut count = 0;
-    for u in 0..n {
-        let byte = byte_in(from[u]);
-        group[u] = byte;
-        count += wide(byte);
+    for (u, byte) in from[..n].iter().enumerate() {
+        let is_in = *byte == 1;
+        group[u] = u8::from(is_in);
+        count += usize::from(is_in);
     }
     count
 }

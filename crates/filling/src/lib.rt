@@ -5,7 +5,7 @@ mod fills;
 mod listings;
 
 // The source and the target of an edge.
-#[derive(Clone, Copy)]
+#[derive(Clone, Copy, Debug, PartialEq, Eq)]
 pub struct Ends {
     pub source: usize,
     pub target: usize,

@@ -1,6 +1,5 @@
 // Lists of edges: those from one group to another.
-ghost use Rattle.std.specs.Prelude.{true, ◌&&◌, ◌≡◌, ◌<◌, ◌≤◌, eqb, length};
-ghost use Rattle.graph.specs.Range.{if};
+ghost use Rattle.std.specs.Prelude.{true, ◌≡◌, ◌<◌, ◌≤◌, length};
 ghost use Rattle.graph.specs.Layers.{joins};
 ghost use Rattle.graph.specs.Within.{within};
 ghost use Rattle.network.specs.File.{graph_of};
@@ -23,33 +22,19 @@ pub fn is_between(file: &[u8], edge: usize, s: &[u8], t: &[u8]) -> bool
     leaves & enters
 }
 
-// 1 where a test holds, else 0.
-fn one_if(test: bool) -> usize
-    ensures { result ≡ if test 1 }
-{
-    if test { 1 } else { 0 }
-}
-
-// Whether everyone so far, and the member of this byte, is in a group.
-fn and_in(everyone: bool, byte: u8) -> bool
-    ensures { result ≡ (eqb byte 1 && everyone) }
-{
-    if byte == 1 { everyone } else { false }
-}
-
 // Whether each of the first n members is in the group. It is told without a branch, many bytes at a time.
 fn is_everyone(group: &[u8], n: usize) -> bool
     requires { n ≤ length group.now }
     ensures { result ≡ true → AllIn n group.now }
 {
     let mut everyone = true;
-    for u in 0..n {
-        everyone = and_in(everyone, group[u]);
+    for byte in &group[0..n] {
+        everyone &= *byte == 1;
     }
     everyone
 }
 
-// Whether this is so of both groups.
+// Whether this is so of both groups: another test than `are_groups` makes.
 fn are_everyone(a: &[u8], b: &[u8], n: usize) -> bool
     requires { (n ≤ length a.now) × (n ≤ length b.now) }
     ensures { result ≡ true → AllIn n a.now × AllIn n b.now }
@@ -70,7 +55,7 @@ fn pick_edges(file: &[u8], a: &[u8], b: &[u8], edges: &mut [u16]) -> usize
     let mut count = 0;
     for edge in 0..size_of(file) {
         edges[count] = edge as u16;
-        count += one_if(is_between(file, edge, a, b));
+        count += usize::from(is_between(file, edge, a, b));
     }
     count
 }

@@ -1,16 +1,15 @@
 -- What the finding call promises: condition 3 as one statement, inside any A and B (02, wish 5) and in any month (02, wish 3).
-use Rattle.std.specs.Prelude.{ℕ, ◌*◌, ◌≤◌, true, List, [], ◌∷◌, ◌↔◌, ◌≡◌, length}
+use Rattle.std.specs.Prelude.{ℕ, ◌*◌, ◌≤◌, true, List, [], ◌∷◌, ◌↔◌, ◌≡◌, None, Result, Ok, length}
 use Rattle.graph.specs.Graph.{edges}
 use Rattle.graph.specs.Core.{EqualLevelInside, BoundsInside}
 use Rattle.graph.specs.Quiet.{OutcomeInside}
-use Rattle.network.specs.File.{graph_of, none, file_refusal}
+use Rattle.network.specs.declared.Refusal.{Refusal}
+use Rattle.network.specs.File.{graph_of, file_refusal}
 use Rattle.network.specs.Groups.{group_of, is_group, Among}
 use Rattle.network.specs.Refusals.{work_length, core_refusal}
 use Rattle.network.specs.Calls.{Call}
 use Rattle.cores.specs.Calls.{GroupsTold}
 use Rattle.searching.specs.declared.Ring.{Ring}
-use Rattle.finding.specs.declared.FindingAnswer.{FindingAnswer}
-use Rattle.finding.specs.declared.FindingAnswer.TheVariants.{Found, Refused}
 
 -- the groups are the finding inside A and B, or empty where no link goes from A to B, with x, y and the equal level; the bounds hold over all pairs
 -- inside A and B, and x × y is 0 exactly when no link goes from A to B
@@ -32,8 +31,8 @@ pub record AsRequired (f a b s t w : List ℕ) : Type 0 where
   pub work : work_length (graph_of f).order (graph_of f).size ≤ length w
 
 -- the finding, which is not refused for an accepted file where the lent tables are as required
-pub record FindingCall (f a b s s' t t' w w' : List ℕ) (r : FindingAnswer) : Type 0 where
+pub record FindingCall (f a b s s' t t' w w' : List ℕ) (r : Result Ring Refusal) : Type 0 where
   pub call :
-      Call (core_refusal f a b (length s) (length t) (length w)) Refused Found (s ∷ t ∷ w ∷ []) (s' ∷ t' ∷ w' ∷ [])
+      Call (core_refusal f a b (length s) (length t) (length w)) (s ∷ t ∷ w ∷ []) (s' ∷ t' ∷ w' ∷ [])
       (FindingTold f a b s s' t t' w w') r
-  pub answered : file_refusal f ≡ none → AsRequired f a b s t w → (ring : Ring) × (r ≡ Found ring)
+  pub answered : file_refusal f ≡ None → AsRequired f a b s t w → (ring : Ring) × (r ≡ Ok ring)

@@ -1,9 +1,9 @@
 // The finding call.
 ghost use Rattle.finding.specs.Findings.{FindingCall};
 
-use crate::FindingAnswer;
-use cores::{Ask, Entry, enter};
-use searching::find_in;
+use cores::enter;
+use network::Refusal;
+use searching::{Ring, find_in};
 
 // 01: the finding inside A and B. Its x and y are at least 1, or its groups are empty: it lies inside A and B as it is found.
 pub fn finding(
@@ -13,12 +13,9 @@ pub fn finding(
     s: &mut [u8],
     t: &mut [u8],
     work: &mut [u16],
-) -> FindingAnswer
+) -> Result<Ring, Refusal>
     ensures { FindingCall file.now a.now b.now s.old s.new t.old t.new work.old work.new result }
 {
-    let entry = enter(file, a, b, Ask::Nothing, s.len(), t.len(), work);
-    match entry {
-        Entry::Refused(refusal) => FindingAnswer::Refused(refusal),
-        Entry::Ready { order, size } => FindingAnswer::Found(find_in(work, order, size, s, t)),
-    }
+    let extent = enter(file, a, b, None, s.len(), t.len(), work)?;
+    Ok(find_in(work, extent, s, t))
 }

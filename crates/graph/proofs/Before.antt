@@ -1,19 +1,16 @@
 -- The order in which the pairs [x,y] of non-empty cores come: it is total, and no two pairs of at least 1 come before each other.
 use Prim.Native.Nat.{ℕ, ◌*◌, ◌≤◌}
-use mathlib.Core.Logic.{◌⊎◌, inl, inr, ⊎_elim}
-use mathlib.Core.Path.{◌≡◌, sym, ap, ◌∙◌}
-use native.Mathlib.Decide.{dec_le}
-use native.Mathlib.Nat.{le_trans, le_antisymm, mul_comm, mul-le-mul_left, mul-le-mul_right, eq_of_mul-eq-mul_left, eq-or-lt_of_le}
+use mathlib.Core.Logic.{◌⊎◌, ⊎_elim}
+use mathlib.Core.Path.{◌≡◌}
+use native.Mathlib.Nat.{mul_comm, mul-le-mul_left, mul-le-mul_right, eq-or-lt_of_le}
 use native.Mathlib.Omega.{arith}
+use Rattle.std.proofs.lemmas.Bool.Decides.{nat_tests}
 use Rattle.graph.specs.Core.{apart, Before}
 
 -- 02, wish 4: no star hides a ring: [x,y] of at least 2 comes before the two stars of its product
 pub before-stars : {x y : ℕ} → 2 ≤ x → 2 ≤ y → Before x y 1 (x * y) × Before x y (x * y) 1
 unfolding apart
-before-stars {x} {y} p q =
-    let a = mul-le-mul_left x q in
-    let b = mul-le-mul_right y p in
-    (omega arith, omega arith)
+before-stars {x} {y} p q = grind (arith, nat_tests)
 
 -- of a pair and the same turned round, which have one product and one difference, the smaller x comes first
 pub before-turned : {x y : ℕ} → x ≤ y → Before x y y x
@@ -34,36 +31,15 @@ column-before {x} {y} p l = ⊎_elim (λ e. rw e (before-refl x y)) (λ h. omega
 
 -- a pair comes before whatever comes after one that it comes before
 pub before-trans : {x y x' y' x'' y'' : ℕ} → Before x y x' y' → Before x' y' x'' y'' → Before x y x'' y''
-before-trans p q =
-    record {
-      product = le_trans q.product p.product;
-      even = λ e. le_trans (p.even (omega arith)) (q.even (omega arith));
-      tie =
-          λ e d.
-          let a = p.even (omega arith) in
-          let b = q.even (omega arith) in
-          le_trans (p.tie (omega arith) (omega arith)) (q.tie (omega arith) (omega arith));
-    }
+before-trans p q = grind (arith, nat_tests)
 
 -- two of which each comes before the other are the same
 pub before-unique : {x y x' y' : ℕ} → 1 ≤ x → Before x y x' y' → Before x' y' x y → (x ≡ x') × (y ≡ y')
-before-unique {x} {y} {x'} {y'} l p q =
-    let e : x' * y' ≡ x * y = le_antisymm p.product q.product in
-    let d : apart x y ≡ apart x' y' = le_antisymm (p.even e) (q.even (sym e)) in
-    let ex : x ≡ x' = le_antisymm (p.tie e d) (q.tie (sym e) (sym d)) in
-    (ex, eq_of_mul-eq-mul_left x l y y' (sym e ∙ ap (◌* y') (sym ex)))
+before-unique {x} {y} {x'} {y'} l p q = grind (arith, nat_tests)
 
 -- one of two comes before the other
 pub before-total : (x y x' y' : ℕ) → Before x y x' y' ⊎ Before x' y' x y
-before-total x y x' y' = go (dec_le (x * y) (x' * y')) (dec_le (x' * y') (x * y)) (dec_le (apart x y) (apart x' y')) (dec_le (apart x' y') (apart x y)) (dec_le x x')
-  where
-    go : Dec (x * y ≤ x' * y') → Dec (x' * y' ≤ x * y) → Dec (apart x y ≤ apart x' y') → Dec (apart x' y' ≤ apart x y) → Dec (x ≤ x') → Before x y x' y' ⊎ Before x' y' x y
-    go (no p) q i j r = inl (omega arith)
-    go (yes p) (no q) i j r = inr (omega arith)
-    go (yes p) (yes q) (no i) j r = inr (omega arith)
-    go (yes p) (yes q) (yes i) (no j) r = inl (omega arith)
-    go (yes p) (yes q) (yes i) (yes j) (yes r) = inl (omega arith)
-    go (yes p) (yes q) (yes i) (yes j) (no r) = inr (omega arith)
+before-total x y x' y' = grind (arith, nat_tests)
 
 -- so one before which another does not come comes before that
 pub before-else : {x y x' y' : ℕ} → ¬ Before x y x' y' → Before x' y' x y

@@ -1,14 +1,14 @@
 -- The double cover joins cores to peeling: a pair of groups is dense exactly when its places are settled, and the settled set that
 -- surrounds every settled set is the core.
 use Prim.Native.Nat.{ℕ, ◌+◌, ◌-◌, ◌*◌, ◌<◌, ◌≤◌}
-use mathlib.Core.Bool.{true, ◌&&◌, and-false}
+use mathlib.Core.Bool.{true, and-false}
 use mathlib.Core.Logic.{◌↔◌}
 use mathlib.Core.Path.{◌≡◌, refl, sym, ap, ◌∙◌}
-use native.Mathlib.Decide.{ℕ_discrete, dec_lt}
+use native.Mathlib.Decide.{dec_lt}
 use native.Mathlib.Nat.{add_comm, add-sub_cancel_left}
 use native.Mathlib.Omega.{arith}
-use borrow.Author.Tests.{lt-ltb, le-ltb, ne_eqb, eq-eqb}
-use lib.Dec.{eqb}
+use borrow.Author.Tests.{lt-ltb, le-ltb, ne_eqb}
+use Rattle.std.proofs.lemmas.Bool.Decides.{nat_tests}
 use Rattle.graph.specs.Range.{sum, if}
 use Rattle.graph.specs.Graph.{Graph, Group, card, edges, out_degree, in_degree}
 use Rattle.graph.specs.Shapes.{Closed, Same}
@@ -23,11 +23,7 @@ use Rattle.graph.proofs.Exists.{dense-same}
 
 -- the places of an edge are places of the cover
 pub closed-cover : {g : Graph} → Closed g → Closed (cover g)
-closed-cover k =
-    record {
-      source-below = λ e l. omega (arith, k.source-below e l);
-      target_below = λ e l. omega (arith, k.target_below e l);
-    }
+closed-cover k = grind (arith, nat_tests)
 
 -- a place below n needs x edges
 pub need-source : (n x y : ℕ) {u : ℕ} → u < n → need n x y u ≡ x
@@ -53,40 +49,20 @@ joined-symmetric g p q = add_comm _ _
 -- no edge joins two sources
 pub joined-sources : (g : Graph) (p q : ℕ) → p < g.order → q < g.order → joined g p q ≡ 0
 unfolding joined
-joined-sources g p q a b = omega (arith, none p q b, none q p a)
-  where
-    none : (p q : ℕ) → q < g.order → edges (cover g) (only p) (only q) ≡ 0
-    none p q b = sum-none _ g.size (λ e l. rw (ne_eqb (g.order + g.target e) q (λ t. omega arith), and-false))
+joined-sources g p q a b = grind (arith, nat_tests, only, sum-none, and-false)
 
 -- nor two targets
 pub joined-targets : {g : Graph} → Closed g → (p q : ℕ) → g.order ≤ p → g.order ≤ q → joined g p q ≡ 0
 unfolding joined
-joined-targets {g} k p q a b = omega (arith, none p q a, none q p b)
-  where
-    none : (p q : ℕ) → g.order ≤ p → edges (cover g) (only p) (only q) ≡ 0
-    none p q a = sum-none _ g.size (λ e l. rw (ne_eqb (g.source e) p (λ t. omega (arith, k.source-below e l))))
+joined-targets {g} k p q a b = grind (arith, nat_tests, only, sum-none)
 
 -- as a source a vertex is joined to the targets in R
 pub degree-source : {g : Graph} → Closed g → (R : Group) {u : ℕ} → u < g.order → degree (joined g) (2 * g.order) R u ≡ out_degree g (targets g R) u
-degree-source {g} k R {u} l =
-    omega (
-      arith,
-      joined-degree k R u,
-      sum-none (λ e. if (R (g.source e) && eqb (g.order + g.target e) u) (g.weight e)) g.size (λ e i.
-          rw (ne_eqb (g.order + g.target e) u (λ q. omega arith), and-false)),
-    )
+degree-source {g} k R {u} l = grind (arith, nat_tests, joined-degree, sum-none, and-false)
 
 -- as a target it is joined to the sources in R
 pub degree-target : {g : Graph} → Closed g → (R : Group) (v : ℕ) → degree (joined g) (2 * g.order) R (g.order + v) ≡ in_degree g R v
-degree-target {g} k R v = omega (arith, joined-degree k R (g.order + v), none, same)
-  where
-    none : out_degree (cover g) R (g.order + v) ≡ 0
-    none =
-        sum-none (λ e. if (eqb (g.source e) (g.order + v) && R (g.order + g.target e)) (g.weight e)) g.size (λ e i.
-        rw (ne_eqb (g.source e) (g.order + v) (λ q. omega (arith, k.source-below e i))))
-
-    same : in_degree (cover g) R (g.order + v) ≡ in_degree g R v
-    same = sum-ext g.size (λ e i. rw (eqb-shift g.order (g.target e) v))
+degree-target {g} k R v = grind (arith, nat_tests, joined-degree, sum-none, sum-ext, eqb-shift)
 
 -- so the links of a place to places of R are its degree
 pub links-degree : {g : Graph} → Closed g → (R : Group) (p : ℕ) → links_to g R p ≡ degree (joined g) (2 * g.order) R p
@@ -145,12 +121,7 @@ edges-places {g} k R = edges-out k R (targets g R) ∙ sum-ext g.order (λ u l. 
 
 -- no edge joins a place to itself
 no_loop : {g : Graph} → Closed g → (p : ℕ) → edges (cover g) (only p) (only p) ≡ 0
-no_loop {g} k p =
-    sum-none _ g.size (λ e l.
-    elim (ℕ_discrete (g.source e) p) [
-      | yes s ↦ rw (ne_eqb (g.order + g.target e) p (λ t. omega (arith, k.source-below e l)), eq-eqb (g.source e) p s)
-      | no s ↦ rw (ne_eqb (g.source e) p s)
-    ])
+no_loop {g} k p = grind (arith, nat_tests, sum-none)
 
 -- E without a place is E less the place's degree
 pub edges-drop : {g : Graph} → Closed g → (R : Group) (p : ℕ) → p < 2 * g.order → R p ≡ true

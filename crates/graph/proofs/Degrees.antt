@@ -6,6 +6,7 @@ use mathlib.Core.Path.{◌≡◌, refl, sym, ◌∙◌}
 use native.Mathlib.Omega.{arith}
 use borrow.Author.Tests.{ne_eqb, eqb-true}
 use lib.Dec.{eqb}
+use Rattle.std.proofs.lemmas.Bool.Decides.{nat_tests}
 use Rattle.graph.specs.Range.{sum, if}
 use Rattle.graph.specs.Graph.{Graph, reverse, Group, everyone, card, edges, out_degree, in_degree}
 use Rattle.graph.specs.Shapes.{Closed, Same}
@@ -31,10 +32,7 @@ edges-reverse g S T = sum-ext g.size (λ e l. if-comm (T (g.target e)) (S (g.sou
 
 -- larger groups have more links between them
 pub edges-mono : {g : Graph} → Closed g → {S S' T T' : Group} → Inside g S S' → Inside g T T' → edges g S T ≤ edges g S' T'
-edges-mono {g} k {S} {S'} {T} {T'} p q =
-    sum_mono g.size (λ e l.
-    if-mono {a = S (g.source e) && T (g.target e)} (g.weight e) (λ h.
-    and_both (p _ (k.source-below e l) (and_left _ (T (g.target e)) h)) (q _ (k.target_below e l) (and_right (S (g.source e)) _ h))))
+edges-mono {g} k {S} {S'} {T} {T'} p q = grind (arith, nat_tests, sum_mono, if-mono, and_both, and_left, and_right)
 
 -- no two groups have more edges between them than everyone
 pub edges-everyone : {g : Graph} → Closed g → (S T : Group) → edges g S T ≤ edges g everyone everyone

@@ -4,6 +4,7 @@ use mathlib.Core.Logic.{◌↔◌}
 use mathlib.Core.Path.{refl, sym, ◌∙◌}
 use native.Mathlib.Nat.{le_trans, one-le-mul}
 use native.Mathlib.Omega.{arith}
+use Rattle.std.proofs.lemmas.Bool.Decides.{nat_tests}
 use Rattle.graph.specs.Graph.{Graph, reverse, Group, card, edges, out_degree, in_degree}
 use Rattle.graph.specs.Shapes.{Closed, Same}
 use Rattle.graph.specs.Core.{Inside, Dense, CoversInside, CoreInside, NonemptyInside, Nonempty}
@@ -13,11 +14,7 @@ use Rattle.graph.proofs.Peel.{peel}
 
 -- a dense pair turned round is dense
 pub dense-reverse : {g : Graph} {x y : ℕ} {S T : Group} → Dense g x y S T → Dense (reverse g) y x T S
-dense-reverse {g} {x} {y} {S} {T} d =
-    record {
-      out = λ v l h. rw (edges-reverse g S (only v)) (d.inn v l h);
-      inn = λ u l h. rw (edges-reverse g (only u) T) (d.out u l h);
-    }
+dense-reverse {g} {x} {y} {S} {T} d = grind (arith, nat_tests)
 
 -- A and B cover every dense pair inside them
 pub covers-all : (g : Graph) (A B : Group) (x y : ℕ) → CoversInside g A B x y A B
@@ -52,10 +49,7 @@ core-exists {g} k A B x y =
 
 -- and only one
 pub core_unique : {g : Graph} {A B : Group} {x y : ℕ} {S T S' T' : Group} → CoreInside g A B x y S T → CoreInside g A B x y S' T' → Same g S S' × Same g T T'
-core_unique c c' =
-    let (p, q) = c.largest _ _ c'.sources c'.targets c'.dense in
-    let (p', q') = c'.largest _ _ c.sources c.targets c.dense in
-    (λ u l. test-ext _ _ (p' u l) (p u l), λ v l. test-ext _ _ (q' v l) (q v l))
+core_unique c c' = grind (arith, nat_tests)
 
 -- only the vertices of the graph count
 pub dense-same : {g : Graph} → Closed g → {x y : ℕ} {S T S' T' : Group} → Same g S S' → Same g T T' → Dense g x y S T → Dense g x y S' T'
@@ -71,13 +65,7 @@ covers-same p q c R Q a b d = let (i, j) = c R Q a b d in (λ u l h. sym (p u l)
 
 -- so groups with the vertices of a core are a core
 pub core-same : {g : Graph} → Closed g → {A B : Group} {x y : ℕ} {S T S' T' : Group} → Same g S S' → Same g T T' → CoreInside g A B x y S T → CoreInside g A B x y S' T'
-core-same k p q c =
-    record {
-      sources = λ u l h. c.sources u l (p u l ∙ h);
-      targets = λ v l h. c.targets v l (q v l ∙ h);
-      dense = dense-same k p q c.dense;
-      largest = covers-same p q c.largest;
-    }
+core-same k p q c = grind (arith, nat_tests, dense-same, covers-same)
 
 -- a core turned round is the core of the reversed graph
 pub core-reverse : {g : Graph} {A B : Group} {x y : ℕ} {S T : Group} → CoreInside g A B x y S T → CoreInside (reverse g) B A y x T S
@@ -145,6 +133,4 @@ nonempty-reverse n = record { S = n.T; T = n.S; core = core-reverse n.core; some
 
 -- and each core has somebody on both sides
 pub core-some : {g : Graph} {A B : Group} {x y : ℕ} {S T : Group} → NonemptyInside g A B x y → CoreInside g A B x y S T → (1 ≤ card g S) × (1 ≤ card g T)
-core-some {g} n c =
-    let (i, j) = c.largest _ _ n.core.sources n.core.targets n.core.dense in
-    (le_trans n.some (card_mono g i), le_trans n.other (card_mono g j))
+core-some {g} n c = grind (arith, nat_tests, le_trans, card_mono)

@@ -3,8 +3,9 @@ use Prim.Native.Nat.{ℕ, zero, suc, ◌≤◌}
 use mathlib.Core.Logic.{⊎_elim}
 use mathlib.Core.Path.{◌≡◌}
 use native.Mathlib.Decide.{dec_le}
-use native.Mathlib.Nat.{le_antisymm, eq-or-lt_of_le, eq-zero-or-pos}
+use native.Mathlib.Nat.{eq-or-lt_of_le}
 use native.Mathlib.Omega.{arith}
+use Rattle.std.proofs.lemmas.Bool.Decides.{nat_tests}
 use Rattle.graph.specs.Graph.{Graph, Group, everyone, card, edges}
 use Rattle.graph.specs.Shapes.{Closed, total, Same}
 use Rattle.graph.specs.Core.{CoreInside, NonemptyInside, Greatest, LevelInside, LevelAcrossInside, EqualLevelInside, FindingInside, Finding}
@@ -35,10 +36,7 @@ greatest-exists {P} d (suc n) h = go (d (suc n)) (greatest-exists d n)
 
 -- and no other
 pub greatest-unique : {P : ℕ → Type 0} {k k' : ℕ} → Greatest P k → Greatest P k' → k ≡ k'
-greatest-unique {P} {k} {k'} a b = le_antisymm (below a b) (below b a)
-  where
-    below : {k k' : ℕ} → Greatest P k → Greatest P k' → k ≤ k'
-    below {k} a b = ⊎_elim (λ e. rw e (omega arith)) (λ p. b.above k p (a.holds p)) (eq-zero-or-pos k)
+greatest-unique {P} {k} {k'} a b = grind (arith, nat_tests)
 
 -- so inside A and B there is the level of each x,
 pub level-exists : {g : Graph} → Closed g → (A B : Group) (x : ℕ) → (y : ℕ) × LevelInside g A B x y

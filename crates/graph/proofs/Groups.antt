@@ -1,13 +1,15 @@
 -- Of A and B only the vertices of the graph count. So where both hold everyone all is as it is among everyone (02, wish 5).
 use Prim.Native.Nat.{ℕ}
-use mathlib.Core.Path.{sym, ◌∙◌}
+use mathlib.Core.Path.{sym}
 use native.Mathlib.Omega.{arith}
+use Rattle.std.proofs.lemmas.Bool.Decides.{nat_tests}
 use Rattle.graph.specs.Graph.{Graph, Group}
 use Rattle.graph.specs.Shapes.{Closed, Same}
 use Rattle.graph.specs.Core.{CoreInside, NonemptyInside, LevelInside, LevelAcrossInside, EqualLevelInside, FindingInside, BoundsInside}
 use Rattle.graph.specs.Quiet.{OutcomeInside, ring, quiet}
 use Rattle.graph.specs.Layers.{LayerInside, LayeringInside}
 use Rattle.graph.proofs.Degrees.{edges-same}
+use Rattle.graph.proofs.Masks.{finding-same}
 use Rattle.graph.proofs.Within.{greatest-same}
 use Rattle.graph.proofs.Layers.{layer-product}
 
@@ -17,13 +19,7 @@ same-sym g p u l = sym (p u l)
 
 -- the core inside groups with the vertices of A and B is the core inside A and B
 pub core-groups : {g : Graph} {A A' B B' : Group} {x y : ℕ} {S T : Group} → Same g A A' → Same g B B' → CoreInside g A B x y S T → CoreInside g A' B' x y S T
-core-groups a b c =
-    record {
-      sources = λ u l h. sym (a u l) ∙ c.sources u l h;
-      targets = λ v l h. sym (b v l) ∙ c.targets v l h;
-      dense = c.dense;
-      largest = λ S' T' i j d. c.largest S' T' (λ u l h. a u l ∙ i u l h) (λ v l h. b v l ∙ j v l h) d;
-    }
+core-groups a b c = grind (arith, nat_tests)
 
 -- empty or not
 nonempty-groups : {g : Graph} {A A' B B' : Group} {x y : ℕ} → Same g A A' → Same g B B' → NonemptyInside g A B x y → NonemptyInside g A' B' x y
@@ -45,24 +41,11 @@ module _ {g : Graph} {A A' B B' : Group} (a : Same g A A') (b : Same g B B') whe
 
   -- the finding,
   pub finding-groups : {x y : ℕ} {S T : Group} → FindingInside g A B x y S T → FindingInside g A' B' x y S T
-  finding-groups f =
-      record {
-        x-positive = f.x-positive;
-        y-positive = f.y-positive;
-        core = core-groups a b f.core;
-        some = f.some;
-        other = f.other;
-        before = λ x' y' p q n. f.before x' y' p q (nonempty-groups (same-sym g a) (same-sym g b) n);
-      }
+  finding-groups = finding-same g g.weight g.weight (λ p q. core-groups a b) (λ x' y' p q. nonempty-groups (same-sym g a) (same-sym g b))
 
   -- and the bound
   pub bounds-groups : {x y : ℕ} {S T : Group} → BoundsInside g A B x y S T → BoundsInside g A' B' x y S T
-  bounds-groups c =
-      record {
-        above = λ S' T' i j. c.above S' T' (λ u l h. a u l ∙ i u l h) (λ v l h. b v l ∙ j v l h);
-        below = c.below;
-        twice = λ S' T' i j. c.twice S' T' (λ u l h. a u l ∙ i u l h) (λ v l h. b v l ∙ j v l h);
-      }
+  bounds-groups c = grind (arith, nat_tests)
 
 -- in a closed graph, where both tell the same edges to go from A to B,
 module _ {g : Graph} (k : Closed g) {A A' B B' : Group} (a : Same g A A') (b : Same g B B') where

@@ -10,9 +10,10 @@ use native.Mathlib.Nat.{le_antisymm, one-le-mul, two-mul, add-zero, add-suc, eq-
 use native.Mathlib.Omega.{arith}
 use borrow.Author.Tests.{eq-eqb, ne_eqb, lt-ltb, le-ltb, ltb-false, not-true}
 use lib.Dec.{eqb, ltb}
+use Rattle.std.proofs.lemmas.Bool.Decides.{nat_tests}
 use Rattle.graph.specs.Range.{sum, if}
 use Rattle.graph.specs.Graph.{Graph, Group, everyone, card, edges, out_degree, in_degree}
-use Rattle.graph.specs.Shapes.{Closed, Same}
+use Rattle.graph.specs.Shapes.{Closed}
 use Rattle.graph.specs.Core.{Inside}
 use Rattle.graph.specs.Sorting.{Permutes}
 use Rattle.graph.specs.Places.{targets}
@@ -103,13 +104,7 @@ module _ {g : Graph} (k : Closed g) where
 
   -- no two drops take the same place, and each place is taken
   pub drop-permutes : Permutes (drop_at g) (2 * g.order)
-  drop-permutes =
-      record { below = λ i l. (drop-least i l).below; injective = λ i j l m e. le_antisymm (order i j l m e) (order j i m l (sym e)) }
-    where
-      order : (i j : ℕ) → i < 2 * g.order → j < 2 * g.order → drop_at g i ≡ drop_at g j → i ≤ j
-      order i j l m e =
-          let t : not (ltb j i) ≡ true = sym (state-drop i j m) ∙ ap (state_after g i) (sym e) ∙ (drop-least i l).member in
-          ltb-false j i (not-true _ t)
+  drop-permutes = grind (arith, nat_tests, drop-least, le_antisymm, state-drop, not-true)
 
   -- where each state has at most the density e / c, a place when it is dropped has at most 2 * e / c edges,
   drop-degree : (c e i : ℕ) → i < 2 * g.order → links_after g i * c ≤ e * size_after g i → degree_in g (state_after g i) (drop_at g i) * c ≤ 2 * e
@@ -187,20 +182,13 @@ pub places-none : (g : Graph) → edges g everyone everyone ≡ 0 → harmonic_p
 unfolding harmonic_places
 places-none g h = rw (eq-eqb (edges g everyone everyone) 0 h)
 
--- the pair found is that of the places found
-found-sources : {g : Graph} {S T : Group} → Harmonic g S T → Same g S (harmonic_places g)
-found-sources h u l = h.sources u l
-
-found-targets : {g : Graph} {S T : Group} → Harmonic g S T → Same g T (targets g (harmonic_places g))
-found-targets h v l = h.targets v l
-
--- so it has their E
+-- the pair found has the E of the places found
 pub found-links : {g : Graph} → Closed g → {S T : Group} → Harmonic g S T → edges g S T ≡ edges g (harmonic_places g) (targets g (harmonic_places g))
-found-links k h = edges-same k (found-sources h) (found-targets h)
+found-links k h = edges-same k h.sources h.targets
 
 -- and their number
 found-size : {g : Graph} {S T : Group} → Harmonic g S T → card g S + card g T ≡ card g (harmonic_places g) + card g (targets g (harmonic_places g))
-found-size {g} h = omega (arith, card-same g (found-sources h), card-same g (found-targets h))
+found-size {g} h = omega (arith, card-same g h.sources, card-same g h.targets)
 
 -- 02, wish 6: no pair has more than twice the harmonic measure of the pair found
 pub harmonic-bound : {g : Graph} → Closed g → {S T : Group} → Harmonic g S T → HarmonicBound g S T
@@ -229,19 +217,10 @@ harmonic-bound {g} k {S} {T} f S' T' _ _ = ⊎_elim none some (eq-zero-or-pos (e
 -- with edges, the pair found has some
 pub harmonic-some : {g : Graph} → Closed g → {S T : Group} → Harmonic g S T → 1 ≤ edges g everyone everyone → 1 ≤ edges g S T
 unfolding state_after
-harmonic-some {g} k f t =
-    let i = best_state g in
-    let e = rw (places-linked g t) at (found-links k f) in
-    ⊎_elim (λ z. absurd (omega (
-      arith,
-      e,
-      ap (◌* size_after g 0) z,
-      best-greatest k t 0 (omega (arith, linked-order k t)),
-      one-le-mul t (some_after k i (best-unbeaten k t).below),
-    ))) (λ p. omega (arith, e)) (eq-zero-or-pos (links_after g i))
+harmonic-some {g} k f t = grind (arith, nat_tests, places-linked, found-links, best-greatest, linked-order, one-le-mul, some_after, best-unbeaten, eq-zero-or-pos)
 
 -- and without it is empty
 pub harmonic-none : {g : Graph} {S T : Group} → Harmonic g S T → edges g everyone everyone ≡ 0 → (card g S ≡ 0) × (card g T ≡ 0)
 harmonic-none {g} f z =
     let nobody = sum-zero g.order in
-    (card-same g (found-sources f) ∙ rw (places-none g z) nobody, card-same g (found-targets f) ∙ rw (places-none g z) nobody)
+    (card-same g f.sources ∙ rw (places-none g z) nobody, card-same g f.targets ∙ rw (places-none g z) nobody)

@@ -1,39 +1,29 @@
 -- The layers inside A and B are the layers of the graph in which only the edges from A to B count; so every graph has them, and only once.
 use Prim.Native.Nat.{ℕ, suc, ◌<◌}
-use mathlib.Core.Bool.{Bool, true, false, ◌&&◌}
+use mathlib.Core.Bool.{Bool, true, false}
 use mathlib.Core.Logic.{◌↔◌}
-use mathlib.Core.Path.{◌≡◌, refl, sym, ap, ◌∙◌}
+use mathlib.Core.Path.{◌≡◌, refl, sym, ◌∙◌}
 use native.Mathlib.Omega.{arith}
 use borrow.Author.Tests.{eqb-true}
 use lib.Dec.{eqb, leb}
+use Rattle.std.proofs.lemmas.Bool.Decides.{nat_tests}
 use Rattle.graph.specs.Range.{sum, if}
 use Rattle.graph.specs.Graph.{Graph, Group, everyone, edges}
 use Rattle.graph.specs.Shapes.{Closed}
 use Rattle.graph.specs.Core.{Inside}
 use Rattle.graph.specs.Layers.{is_in, still_in, joins, edges_in, LayerInside, Layer, LayeringInside, Layering}
 use Rattle.graph.specs.Within.{between, within}
-use Rattle.graph.proofs.Tests.{and_left, and_right, and_both, test-ext}
+use Rattle.graph.proofs.Tests.{and_right, if-swap}
 use Rattle.graph.proofs.Sums.{sum-ext}
 use Rattle.graph.proofs.Masks.{closed-weighing, finding-weights}
 use Rattle.graph.proofs.Within.{closed-within, finding-within}
-use Rattle.graph.proofs.Layers.{joins-keep, layer-make, layer-product}
+use Rattle.graph.proofs.Layers.{layer-make, layer-product}
 use Rattle.graph.proofs.Layered.{layering-exists}
 use Rattle.graph.proofs.Layering.{layering-unique, layering-edges}
 
--- the order of two tests does not count, one after the other
-if-swap : (a b : Bool) (w : ℕ) → if a (if b w) ≡ if b (if a w)
-if-swap true b w = refl
-if-swap false true w = refl
-if-swap false false w = refl
-
 -- a link from A to B is a link of that graph, among everyone
 joins-within : (g : Graph) (A B : Group) (e : ℕ) → joins (within g A B) everyone everyone e ≡ joins g A B e
-joins-within g A B e = joins-keep g (between g A B) everyone everyone e ∙ turned (between g A B e) (leb 1 (g.weight e))
-  where
-    turned : (a b : Bool) → (a && (b && true)) ≡ (b && a)
-    turned true b = refl
-    turned false true = refl
-    turned false false = refl
+joins-within g A B e = grind (arith, nat_tests)
 
 -- an edge that is a link from A to B goes from A to B
 joins-ends : (g : Graph) (A B : Group) (e : ℕ) → joins g A B e ≡ true → between g A B e ≡ true
@@ -43,16 +33,7 @@ module _ {g : Graph} (k : Closed g) (A B : Group) where
   -- so does one from S to T where these are inside A and B: of the links still in, those from S to T are the same
   joins-inside : {S T : Group} → Inside g S A → Inside g T B → (L : ℕ → ℕ) (l e : ℕ) → e < g.size
       → joins (still_in (within g A B) L l) S T e ≡ joins (still_in g L l) S T e
-  joins-inside {S} {T} i j L l e h =
-      joins-keep (within g A B) (λ d. is_in l (L d)) S T e ∙ ap (λ t. is_in l (L e) && t) same ∙ sym (joins-keep g (λ d. is_in l (L d)) S T e)
-    where
-      ends : joins g S T e ≡ true → between g A B e ≡ true
-      ends t =
-          let both = joins-ends g S T e t in
-          and_both (i _ (k.source-below e h) (and_left _ (T (g.target e)) both)) (j _ (k.target_below e h) (and_right (S (g.source e)) _ both))
-
-      same : joins (within g A B) S T e ≡ joins g S T e
-      same = joins-keep g (between g A B) S T e ∙ test-ext _ _ (and_right (between g A B e) (joins g S T e)) (λ t. and_both (ends t) t)
+  joins-inside {S} {T} i j L l e h = grind (arith, nat_tests)
 
   -- of the links from A to B those still in weigh the same, whichever test comes first
   still-within : (L : ℕ → ℕ) (l e : ℕ) → e < g.size → (still_in (within g A B) L l).weight e ≡ (within (still_in g L l) A B).weight e

@@ -1,13 +1,14 @@
 -- Keys from which the next place to drop is read, and at the end the state after any number of drops: a place that is left has its degree for a key,
 -- and one that was dropped its mark, which is greater than every degree and tells how many were dropped before it.
 use Prim.Native.Nat.{ℕ, suc, ◌+◌, ◌*◌, ◌<◌}
-use mathlib.Core.Bool.{Bool, true, false, not, false≢true}
+use mathlib.Core.Bool.{true, false, not, false≢true}
 use mathlib.Core.Logic.{◌≢◌}
-use mathlib.Core.Path.{◌≡◌, refl, sym, ap, ◌∙◌}
+use mathlib.Core.Path.{◌≡◌, sym, ap, ◌∙◌}
 use native.Mathlib.Decide.{dec_lt}
 use native.Mathlib.Omega.{arith}
-use borrow.Author.Tests.{eq-eqb, lt-ltb, le-ltb, le-leb, lt-leb}
-use lib.Dec.{eqb, ltb, leb}
+use borrow.Author.Tests.{lt-ltb, le-ltb, le-leb, lt-leb}
+use lib.Dec.{ltb, leb}
+use Rattle.std.proofs.lemmas.Bool.Decides.{nat_tests}
 use Rattle.graph.specs.Graph.{Graph, everyone}
 use Rattle.graph.specs.Shapes.{Closed}
 use Rattle.graph.specs.Cover.{joined}
@@ -36,11 +37,7 @@ gone-drop {g} c i p l h =
 module _ {g : Graph} (c : Closed g) (light : Light g) {i : ℕ} {key : ℕ → ℕ} (keys : Keys g i key) where
   -- a place is left where its key is below the marks
   pub keys-test : (p : ℕ) → p < 2 * g.order → state_after g i p ≡ ltb (key p) first_mark
-  keys-test p l = go (state_after g i p) refl
-    where
-      go : (b : Bool) → state_after g i p ≡ b → b ≡ ltb (key p) first_mark
-      go true e = sym (lt-ltb (key p) first_mark (omega (arith, keys.left p l e, light (state_after g i) p l)))
-      go false e = let (j, m, d) = gone-drop c i p l e in sym (le-ltb (key p) first_mark (omega (arith, keys.gone j m, ap key d)))
+  keys-test p l = grind (arith, nat_tests, gone-drop)
 
   module _ (l : i < 2 * g.order) where
     -- the place to drop has its degree for a key
@@ -49,22 +46,7 @@ module _ {g : Graph} (c : Closed g) (light : Light g) {i : ℕ} {key : ℕ → �
 
     -- the first place with the smallest key is the one to drop
     pub keys-pick : (p : ℕ) → Least key everyone (2 * g.order) p → p ≡ drop_at g i
-    keys-pick p s = unbeaten-unique within next
-      where
-        next : Least (degree_in g (state_after g i)) (state_after g i) (2 * g.order) (drop_at g i)
-        next = drop-least c i l
-
-        small : key p < first_mark
-        small = omega (arith, least-le key s (drop_at g i) next.below refl, drop-key, light (state_after g i) (drop_at g i) next.below)
-
-        member : state_after g i p ≡ true
-        member = keys-test p s.below ∙ lt-ltb (key p) first_mark small
-
-        within : Least (degree_in g (state_after g i)) (state_after g i) (2 * g.order) p
-        within =
-            least_by (degree_in g (state_after g i)) s.below member
-            (λ q k t. omega (arith, least-le key s q k refl, keys.left p s.below member, keys.left q k t))
-            (λ q k t. omega (arith, least_lt key s q k refl, keys.left p s.below member, keys.left q (omega (arith, s.below)) t))
+    keys-pick p s = grind (arith, nat_tests, unbeaten-unique, drop-least, least-le, drop-key, keys-test, least_by, least_lt)
 
     -- when it is marked, and its edges are taken from the keys of the places left, these are the keys after the drop
     pub keys-next : (key' : ℕ → ℕ) → key' (drop_at g i) ≡ first_mark + i
@@ -72,20 +54,7 @@ module _ {g : Graph} (c : Closed g) (light : Light g) {i : ℕ} {key : ℕ → �
         → ((q : ℕ) → q < 2 * g.order → state_after g i q ≡ false → key' q ≡ key q)
         → Keys g (suc i) key'
     unfolding state_after
-    keys-next key' here others old =
-        record {
-          left = λ q k t. omega (arith, others q k (other q t) (kept q t), keys.left q k (kept q t), degree-next c i q l);
-          gone = λ j m. below_suc m (λ e. rw e here) (λ n. old _ (drop-least c j (omega arith)).below (away j n) ∙ keys.gone j n);
-        }
-      where
-        kept : (q : ℕ) → state_after g (suc i) q ≡ true → state_after g i q ≡ true
-        kept q t = and_right (not (eqb q (drop_at g i))) _ t
-
-        other : (q : ℕ) → state_after g (suc i) q ≡ true → q ≢ drop_at g i
-        other q t e = false≢true (sym (rw (eq-eqb q (drop_at g i) e)) ∙ t)
-
-        away : (j : ℕ) → j < i → state_after g i (drop_at g j) ≡ false
-        away j m = state-drop c i j (omega arith) ∙ rw (lt-ltb j i m)
+    keys-next key' here others old = grind (arith, nat_tests, degree-next, below_suc, drop-least, and_right, state-drop)
 
 -- at the end the keys say which places were left after j drops
 pub keys-end : {g : Graph} → Closed g → {key : ℕ → ℕ} → Keys g (2 * g.order) key → (j p : ℕ) → p < 2 * g.order → state_after g j p ≡ leb (first_mark + j) (key p)

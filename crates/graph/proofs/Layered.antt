@@ -5,8 +5,9 @@ use mathlib.Core.Logic.{⊎_elim}
 use mathlib.Core.Path.{◌≡◌, refl, sym, ap, ◌∙◌}
 use native.Mathlib.Nat.{le_refl, le_trans, eq-zero-or-pos, eq-or-lt_of_le}
 use native.Mathlib.Omega.{arith}
-use borrow.Author.Tests.{lt-leb, eq-eqb, ne_eqb, eqb-true}
+use borrow.Author.Tests.{eq-eqb, ne_eqb, eqb-true}
 use lib.Dec.{eqb}
+use Rattle.std.proofs.lemmas.Bool.Decides.{nat_tests}
 use Rattle.graph.specs.Range.{sum, if}
 use Rattle.graph.specs.Graph.{Graph, Group, everyone}
 use Rattle.graph.specs.Shapes.{Closed, total}
@@ -59,11 +60,7 @@ module _ {g : Graph} (c : Closed g) {L : ℕ → ℕ} {k : ℕ} (a : Layered g L
 
   -- at the start of the next layer the links in no layer yet are still in
   layered-in : (e : ℕ) → e < g.size → (unlayered g L).weight e ≡ (still_in g L (suc k)).weight e
-  layered-in e l = ap (λ t. if t (g.weight e)) (last (L e) (a.most e l))
-    where
-      last : (b : ℕ) → b ≤ k → eqb b 0 ≡ is_in (suc k) b
-      last zero i = refl
-      last (suc b) i = rw (ne_eqb (suc b) 0 (omega arith), lt-leb (suc k) (suc b) (omega arith))
+  layered-in e l = grind (arith, nat_tests)
 
   -- once no link is without a layer all are made
   pub layered-ends : total (unlayered g L) ≡ 0 → Layering g L k

@@ -2,12 +2,12 @@
 use Prim.Native.Nat.{ℕ, zero, suc, ◌<◌, ◌≤◌}
 use mathlib.Core.Logic.{⊎_elim}
 use mathlib.Core.Path.{◌≡◌, refl, sym, ap, ◌∙◌}
-use native.Mathlib.Decide.{dec_le}
 use native.Mathlib.Nat.{le_refl, le_antisymm, eq-zero-or-pos, eq-or-lt_of_le}
 use native.Mathlib.Omega.{arith}
 use borrow.Author.Tests.{eq-eqb, eqb-true}
 use lib.Dec.{eqb}
-use Rattle.graph.specs.Range.{sum, if}
+use Rattle.std.proofs.lemmas.Bool.Decides.{nat_tests}
+use Rattle.graph.specs.Range.{sum}
 use Rattle.graph.specs.Graph.{Graph}
 use Rattle.graph.specs.Shapes.{Closed, total}
 use Rattle.graph.specs.Layers.{is_in, edges_in, Layer, Layering}
@@ -51,27 +51,12 @@ module _ {g : Graph} (c : Closed g) {L L' : ℕ → ℕ} {K K' : ℕ} (a : Layer
 
 -- there is only one layering
 pub layering-unique : {g : Graph} → Closed g → {L L' : ℕ → ℕ} {K K' : ℕ} → Layering g L K → Layering g L' K' → (K ≡ K') × ((e : ℕ) → e < g.size → L e ≡ L' e)
-layering-unique {g} c {L} {L'} {K} {K'} a b = (number (dec_le K K') (dec_le K' K), λ e h. same e h (dec_le 1 (g.weight e)))
-  where
-    number : Dec (K ≤ K') → Dec (K' ≤ K) → K ≡ K'
-    number (yes i) (yes j) = le_antisymm i j
-    number (yes i) (no j) = absurd (no_more c a b (omega arith))
-    number (no i) j = absurd (no_more c b a (omega arith))
-
-    same : (e : ℕ) → e < g.size → Dec (1 ≤ g.weight e) → L e ≡ L' e
-    same e h (yes p) = same-layer c b a (omega (arith, number (dec_le K K') (dec_le K' K))) e h p
-    same e h (no p) = none (L e) (λ q. (joins-everyone g e).0 ((a.every e h).0 q)) ∙ sym (none (L' e) (λ q. (joins-everyone g e).0 ((b.every e h).0 q)))
-      where
-        none : (k : ℕ) → (1 ≤ k → 1 ≤ g.weight e) → k ≡ 0
-        none k f = ⊎_elim (λ q. q) (λ q. absurd (p (f q))) (eq-zero-or-pos k)
+layering-unique {g} c {L} {L'} {K} {K'} a b = grind (arith, nat_tests, le_antisymm, no_more, same-layer, joins-everyone, eq-zero-or-pos)
 
 module _ {g : Graph} (c : Closed g) {L : ℕ → ℕ} {K : ℕ} (a : Layering g L K) where
   -- no link is left
   layering-none : total (unlayered g L) ≡ 0
-  layering-none = sum-none _ g.size (λ e h. ⊎_elim (λ q. q) (λ p. absurd (none e h p)) (eq-zero-or-pos _))
-    where
-      none : (e : ℕ) → e < g.size → 1 ≤ if (eqb (L e) 0) (g.weight e) → ⊥
-      none e h p = let (t, q) = if_some (eqb (L e) 0) (g.weight e) p in omega (arith, eqb-true (L e) 0 t, (a.every e h).1 ((joins-everyone g e).1 q))
+  layering-none = grind (arith, nat_tests, sum-none, eq-zero-or-pos, if_some, joins-everyone)
 
   -- so E of the layers is the whole weight
   pub layering-edges : sum (λ i. edges_in g L (suc i)) K ≡ total g

@@ -1,13 +1,13 @@
 -- One layer: what it takes to be one, its links, and its x * y beside that of a later one.
-use Prim.Native.Nat.{ℕ, zero, suc, ◌*◌, ◌<◌, ◌≤◌}
-use mathlib.Core.Bool.{Bool, true, false, ◌&&◌}
-use mathlib.Core.Logic.{◌⊎◌, inl, inr, ⊎_elim, ◌↔◌}
+use Prim.Native.Nat.{ℕ, ◌*◌, ◌<◌, ◌≤◌}
+use mathlib.Core.Bool.{Bool, true, ◌&&◌}
+use mathlib.Core.Logic.{◌⊎◌, ◌↔◌}
 use mathlib.Core.Path.{◌≡◌, refl, sym, ap, ◌∙◌}
-use native.Mathlib.Decide.{dec_le}
 use native.Mathlib.Nat.{le_trans, one-le-mul}
 use native.Mathlib.Omega.{arith}
-use borrow.Author.Tests.{le-leb, leb-true, ne_eqb, eqb-true}
+use borrow.Author.Tests.{le-leb, leb-true, eqb-true}
 use lib.Dec.{eqb, leb}
+use Rattle.std.proofs.lemmas.Bool.Decides.{nat_tests}
 use Rattle.graph.specs.Range.{if}
 use Rattle.graph.specs.Graph.{Graph, Group, everyone, edges}
 use Rattle.graph.specs.Shapes.{Closed}
@@ -22,18 +22,15 @@ use Rattle.graph.proofs.Masks.{weighing, closed-weighing, nonempty-heavier, find
 
 -- a layer before l, other than 0, is no longer in at the start of l, and every other is
 in-cases : (l a : ℕ) → ((1 ≤ a) × (a < l)) ⊎ (is_in l a ≡ true)
-in-cases l zero = inr refl
-in-cases l (suc a) = elim (dec_le l (suc a)) [ yes p ↦ inr (rw (ne_eqb (suc a) 0 (omega arith), le-leb l (suc a) p)) | no p ↦ inl (omega arith) ]
+in-cases l a = grind (arith, nat_tests)
 
 -- two layers that are equal where one of them is before l are both in or both not
 pub in-same : (l a b : ℕ) → (1 ≤ a → a < l → b ≡ a) → (1 ≤ b → b < l → a ≡ b) → is_in l a ≡ is_in l b
-in-same l a b f h =
-    ⊎_elim (λ (p, q). rw (f p q)) (λ s. ⊎_elim (λ (p, q). rw (h p q)) (λ t. s ∙ sym t) (in-cases l b)) (in-cases l a)
+in-same l a b f h = grind (arith, nat_tests)
 
 -- what is in at the start of a layer is in at the start of each before it
 in-before : (l m a : ℕ) → l ≤ m → is_in m a ≡ true → is_in l a ≡ true
-in-before l m zero i h = refl
-in-before l m (suc a) i h = rw (ne_eqb (suc a) 0 (omega arith), le-leb l (suc a) (omega (arith, leb-true m (suc a) (rw (ne_eqb (suc a) 0 (omega arith)) at h))))
+in-before l m a h i = grind (arith, nat_tests)
 
 -- a link from S to T has weight
 pub joins-weight : (g : Graph) (S T : Group) (e : ℕ) → joins g S T e ≡ true → 1 ≤ g.weight e
@@ -45,24 +42,12 @@ joins-everyone g e = (joins-weight g everyone everyone e, λ p. and_both (le-leb
 
 -- the links from S to T among the edges that pass a test
 pub joins-keep : (g : Graph) (p : ℕ → Bool) (S T : Group) (e : ℕ) → joins (keep g p) S T e ≡ (p e && joins g S T e)
-joins-keep g p S T e = either (p e) (g.weight e)
-  where
-    either : (b : Bool) (w : ℕ) → (leb 1 (if b w) && (S (g.source e) && T (g.target e))) ≡ (b && (leb 1 w && (S (g.source e) && T (g.target e))))
-    either true w = refl
-    either false w = refl
+joins-keep g p S T e = grind (arith, nat_tests)
 
 -- E(S,T) of the links still in is E of the layer that has them
 taken-edges : (g : Graph) (L : ℕ → ℕ) (l : ℕ) (S T : Group) → ((e : ℕ) → e < g.size → eqb (L e) l ≡ joins (still_in g L l) S T e)
     → edges (still_in g L l) S T ≡ edges_in g L l
-taken-edges g L l S T taken = sum-ext g.size (λ e h. rw (taken e h) (each (is_in l (L e)) (S (g.source e) && T (g.target e)) (g.weight e)))
-  where
-    each : (t b : Bool) (w : ℕ) → if b (if t w) ≡ if (leb 1 (if t w) && b) w
-    each false true w = refl
-    each false false w = refl
-    each true true zero = refl
-    each true true (suc w) = rw (le-leb 1 (suc w) (omega arith))
-    each true false zero = refl
-    each true false (suc w) = rw (le-leb 1 (suc w) (omega arith))
+taken-edges g L l S T taken = grind (arith, nat_tests, sum-ext)
 
 module _ {g : Graph} (k : Closed g) {A B : Group} {L : ℕ → ℕ} {l : ℕ} where
   -- a layer is made of the finding of the links still in at its start, told by their weights, and of its links

@@ -5,7 +5,7 @@ use mathlib.Core.Logic.{◌≢◌}
 use mathlib.Core.Path.{◌≡◌, refl}
 use native.Mathlib.Nat.{le_trans}
 use native.Mathlib.Omega.{arith}
-use borrow.Author.Tests.{ne_eqb}
+use Rattle.std.proofs.lemmas.Bool.Decides.{nat_tests}
 use Rattle.graph.specs.Graph.{Group}
 use Rattle.graph.specs.Linkage.{degree, Settled, Surrounds}
 use Rattle.graph.proofs.Tests.{if-mono}
@@ -49,5 +49,4 @@ short-avoided {L} p l short r s h = omega (arith, s.enough p l h, degree-mono L 
 -- so what surrounds them does so still when that place is taken out
 pub surrounds-without : {L : ℕ → ℕ → ℕ} {N : ℕ} {need : ℕ → ℕ} {R S : Group} (p : ℕ) → p < N → degree L N R p < need p → Surrounds L N need R
     → Surrounds L N need S → Surrounds L N need (without S p)
-surrounds-without p l short r t =
-    record { inside = λ Q s q k h. rw (ne_eqb q p (λ e. short-avoided p l short r s (rw e at h)), t.inside Q s q k h) }
+surrounds-without p l short r t = grind (arith, nat_tests, short-avoided)

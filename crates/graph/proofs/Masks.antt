@@ -19,6 +19,21 @@ weighing g w = record { order = g.order; size = g.size; source = g.source; targe
 pub closed-weighing : {g : Graph} → Closed g → (w : ℕ → ℕ) → Closed (weighing g w)
 closed-weighing k w = record { source-below = k.source-below; target_below = k.target_below }
 
+-- where x and y have the same core, and no other core of the one is not empty unless it is so in the other, the finding is the same
+pub finding-same : (g : Graph) (w w' : ℕ → ℕ) {A B A' B' : Group} {x y : ℕ} {S T : Group}
+    → (1 ≤ x → 1 ≤ y → CoreInside (weighing g w) A B x y S T → CoreInside (weighing g w') A' B' x y S T)
+    → ((x' y' : ℕ) → 1 ≤ x' → 1 ≤ y' → NonemptyInside (weighing g w') A' B' x' y' → NonemptyInside (weighing g w) A B x' y')
+    → FindingInside (weighing g w) A B x y S T → FindingInside (weighing g w') A' B' x y S T
+finding-same g w w' core back f =
+    record {
+      x-positive = f.x-positive;
+      y-positive = f.y-positive;
+      core = core f.x-positive f.y-positive f.core;
+      some = f.some;
+      other = f.other;
+      before = λ x' y' p q n. f.before x' y' p q (back x' y' p q n);
+    }
+
 module _ (g : Graph) (w w' : ℕ → ℕ) (h : (e : ℕ) → e < g.size → w e ≤ w' e) where
   -- heavier edges count more between two groups
   edges-heavier : (S T : Group) → edges (weighing g w) S T ≤ edges (weighing g w') S T
@@ -59,12 +74,4 @@ module _ (g : Graph) (w w' : ℕ → ℕ) (h : (e : ℕ) → e < g.size → w e 
 
   -- and the same finding
   pub finding-weights : Closed g → {A B : Group} {x y : ℕ} {S T : Group} → FindingInside (weighing g w) A B x y S T → FindingInside (weighing g w') A B x y S T
-  finding-weights k f =
-      record {
-        x-positive = f.x-positive;
-        y-positive = f.y-positive;
-        core = core-weights f.core;
-        some = f.some;
-        other = f.other;
-        before = λ x' y' p q n. f.before x' y' p q (nonempty-heavier g w' w down k n);
-      }
+  finding-weights k = finding-same g w w' (λ p q. core-weights) (λ x' y' p q. nonempty-heavier g w' w down k)

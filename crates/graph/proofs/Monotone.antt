@@ -5,14 +5,11 @@ use native.Mathlib.Nat.{le_refl}
 use native.Mathlib.Numerals.{add-one}
 use native.Mathlib.Omega.{arith}
 use Rattle.graph.specs.Range.{sum}
-use Rattle.graph.proofs.Sums.{below_suc}
+use Rattle.graph.proofs.Sums.{below_suc, sum-front}
 
 -- up to N no number is greater than a later one
 pub monotone : (f : ℕ → ℕ) (N : ℕ) → ((p : ℕ) → p < N → f p ≤ f (p + 1)) → (p q : ℕ) → p ≤ q → q ≤ N → f p ≤ f q
-monotone f N up p zero l h = rw (none l) (le_refl _)
-  where
-    none : {k : ℕ} → k ≤ 0 → k ≡ 0
-    none l = omega arith
+monotone f N up p zero l h = let e : p ≡ 0 = omega arith in rw e (le_refl _)
 monotone f N up p (suc q) l h =
     below_suc {i = p} {n = suc q} (omega arith)
     (λ e. rw e (le_refl _))
@@ -20,8 +17,7 @@ monotone f N up p (suc q) l h =
 
 -- a part of the terms has no greater sum
 pub sum-part : (f : ℕ → ℕ) (k n : ℕ) → k ≤ n → sum f k ≤ sum f n
-unfolding sum
-sum-part f k n l = monotone (sum f) n (λ p h. rw (add-one p) (omega arith)) k n l (le_refl n)
+sum-part = sum-front
 
 -- the steps from each number to the next are together the way from the first to the last
 pub sum-steps : (f : ℕ → ℕ) (n : ℕ) → ((p : ℕ) → p < n → f p ≤ f (p + 1)) → sum (λ p. f (p + 1) - f p) n + f 0 ≡ f n

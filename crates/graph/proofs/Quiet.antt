@@ -6,6 +6,7 @@ use mathlib.Core.Logic.{◌↔◌, ⊎_elim}
 use mathlib.Core.Path.{◌≡◌}
 use native.Mathlib.Nat.{one-le-mul, eq-zero-or-pos}
 use native.Mathlib.Omega.{arith}
+use Rattle.std.proofs.lemmas.Bool.Decides.{nat_tests}
 use Rattle.graph.specs.Graph.{Graph, Group, card, edges}
 use Rattle.graph.specs.Shapes.{Closed, total, Same}
 use Rattle.graph.specs.Core.{Inside, Core, EqualLevel, FindingInside, BoundsInside}
@@ -26,8 +27,7 @@ finding-linked k f = nonempty-linked k f.x-positive f.y-positive (finding-nonemp
 
 -- so where a link does the outcome is the finding
 pub outcome-finding : {g : Graph} {A B : Group} {x y : ℕ} {S T : Group} → OutcomeInside g A B x y S T → 1 ≤ edges g A B → FindingInside g A B x y S T
-outcome-finding (ring f) p = f
-outcome-finding (quiet e n) p = absurd (omega arith)
+outcome-finding h i = grind (arith, nat_tests)
 
 -- the equal level is 0 exactly where there is no link
 pub equal-level-zero : {g : Graph} → Closed g → {j : ℕ} → EqualLevel g j → (j ≡ 0) ↔ (total g ≡ 0)
@@ -53,8 +53,7 @@ quiet-core {g} k e {S = S} {T} p q c =
 
 -- the outcome of the graph in which only the edges from A to B count is the outcome inside A and B
 pub outcome-within : {g : Graph} → Closed g → (A B : Group) {x y : ℕ} {S T : Group} → Outcome (within g A B) x y S T → OutcomeInside g A B x y S T
-outcome-within k A B (ring f) = ring ((finding-within k A B).0 f)
-outcome-within k A B (quiet e n) = quiet e (record { x-zero = n.x-zero; y-zero = n.y-zero; no_source = n.no_source; no_target = n.no_target })
+outcome-within h A B i = grind (arith, nat_tests, finding-within)
 
 -- and lies inside them
 pub outcome-inside : {g : Graph} {A B : Group} {x y : ℕ} {S T : Group} → OutcomeInside g A B x y S T → Inside g S A × Inside g T B
@@ -87,8 +86,7 @@ outcome-unique {g} k {S = S} {T} {S'} {T'} (quiet e n) (quiet i m) =
 
 -- 02: x * y is 0 exactly where no link goes from A to B
 pub outcome-product : {g : Graph} → Closed g → {A B : Group} {x y : ℕ} {S T : Group} → OutcomeInside g A B x y S T → (x * y ≡ 0) ↔ (edges g A B ≡ 0)
-outcome-product k (ring f) = (λ e. absurd (omega (arith, one-le-mul f.x-positive f.y-positive)), λ e. absurd (omega (arith, finding-linked k f)))
-outcome-product k (quiet e n) = (λ i. e, λ i. rw n.x-zero (omega arith))
+outcome-product h i = grind (arith, nat_tests, one-le-mul, finding-linked)
 
 -- condition 3, in every month
 pub outcome-bounds : {g : Graph} → Closed g → {A B : Group} {x y : ℕ} {S T : Group} → OutcomeInside g A B x y S T → BoundsInside g A B x y S T

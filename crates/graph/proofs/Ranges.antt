@@ -1,6 +1,6 @@
 -- Laws of the first number that passes a test, of lists written out over the numbers below n, and of maps that permute these numbers.
 use Prim.Native.Nat.{ℕ, zero, suc, ◌+◌, ◌*◌, ◌<◌, ◌≤◌}
-use mathlib.Core.Bool.{Bool, true, false, cond, false≢true}
+use mathlib.Core.Bool.{Bool, true, false, false≢true}
 use mathlib.Core.List.{List, [], ◌∷◌, ◌++◌}
 use mathlib.Core.Path.{◌≡◌, refl, sym, ap, ◌∙◌}
 use native.Mathlib.Decide.{dec_le}
@@ -10,35 +10,32 @@ use borrow.Author.Tests.{eqb-true, eq-eqb}
 use lib.Dec.{eqb}
 use lib.ListN.{length, get_or, set, drop, length-append, get_or-append}
 use lib.Seq.{ext_get_or, drop-cons, set_at, get_or_at, append_snoc, get_or-append-add}
+use Rattle.std.proofs.lemmas.Bool.Decides.{nat_tests}
+use Rattle.std.proofs.lemmas.Bool.{cond_both}
 use Rattle.graph.specs.Range.{sum, if, first, flat, table}
 use Rattle.graph.specs.Sorting.{Permutes}
 use Rattle.graph.proofs.Tests.{test-ext, if_some}
 use Rattle.graph.proofs.Sums.{sum-ext, sum_mono, sum_ones, sum-swap, below_suc, sum-some, sum-pick}
 
--- what holds of x where a test holds, and of y where it fails, holds of the one it chooses
-cond_either : (b : Bool) (P : ℕ → Type 0) {x y : ℕ} → (b ≡ true → P x) → (b ≡ false → P y) → P (cond b x y)
-cond_either true P f h = f refl
-cond_either false P f h = h refl
-
 -- the first that passes is at most n
 pub first-le : (p : ℕ → Bool) (n : ℕ) → first p n ≤ n
 unfolding first
 first-le p zero = omega arith
-first-le p (suc n) = cond_either (p zero) (λ k. k ≤ suc n) (λ e. omega arith) (λ e. omega (arith, first-le (λ i. p (suc i)) n))
+first-le p (suc n) = cond_both (p zero) _ _ (λ k. k ≤ suc n) (λ e. omega arith) (λ e. omega (arith, first-le (λ i. p (suc i)) n))
 
 -- where it is below n it passes
 pub first_passes : (p : ℕ → Bool) (n : ℕ) → first p n < n → p (first p n) ≡ true
 unfolding first
 first_passes p zero = λ l. absurd (omega arith)
-first_passes p (suc n) = cond_either (p zero) (λ k. k < suc n → p k ≡ true) (λ e l. e) (λ e l. first_passes (λ i. p (suc i)) n (omega arith))
+first_passes p (suc n) = cond_both (p zero) _ _ (λ k. k < suc n → p k ≡ true) (λ e l. e) (λ e l. first_passes (λ i. p (suc i)) n (omega arith))
 
 -- and none before it does
 pub first-before : (p : ℕ → Bool) (n i : ℕ) → i < first p n → p i ≡ false
 unfolding first
 first-before p zero i = λ l. absurd (omega arith)
-first-before p (suc n) zero = cond_either (p zero) (λ k. 0 < k → p 0 ≡ false) (λ e l. absurd (omega arith)) (λ e l. e)
+first-before p (suc n) zero = cond_both (p zero) _ _ (λ k. 0 < k → p 0 ≡ false) (λ e l. absurd (omega arith)) (λ e l. e)
 first-before p (suc n) (suc i) =
-    cond_either (p zero) (λ k. suc i < k → p (suc i) ≡ false) (λ e l. absurd (omega arith)) (λ e l. first-before (λ i. p (suc i)) n i (omega arith))
+    cond_both (p zero) _ _ (λ k. suc i < k → p (suc i) ≡ false) (λ e l. absurd (omega arith)) (λ e l. first-before (λ i. p (suc i)) n i (omega arith))
 
 -- it is at most any number that passes
 pub first-least : (p : ℕ → Bool) (n i : ℕ) → p i ≡ true → first p n ≤ i
@@ -50,10 +47,7 @@ first_some p n i l h = omega (arith, first-least p n i h)
 
 -- it is k where none before k passes, and k does unless it is n
 pub first-is : (p : ℕ → Bool) (n k : ℕ) → k ≤ n → ((i : ℕ) → i < k → p i ≡ false) → (k < n → p k ≡ true) → first p n ≡ k
-first-is p n k l none some =
-    le_antisymm
-    (elim (dec_le (suc k) n) [ yes h ↦ first-least p n k (some h) | no h ↦ omega (arith, first-le p n) ])
-    (elim (dec_le k (first p n)) [ yes h ↦ h | no h ↦ absurd (false≢true (sym (none _ (omega arith)) ∙ first_passes p n (omega arith))) ])
+first-is p n k l none some = grind (arith, nat_tests, le_antisymm, first-least, first-le, first_passes)
 
 -- equal tests pass first at the same number
 pub first-ext : (p q : ℕ → Bool) (n : ℕ) → ((i : ℕ) → i < n → p i ≡ q i) → first p n ≡ first q n

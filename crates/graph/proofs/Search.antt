@@ -1,9 +1,10 @@
 -- A search that tries the level of each x and the level across of each y up to the equal level comes to the finding.
-use Prim.Native.Nat.{ℕ, zero, suc, ◌*◌, ◌<◌, ◌≤◌}
+use Prim.Native.Nat.{ℕ, suc, ◌*◌, ◌<◌, ◌≤◌}
 use mathlib.Core.Logic.{◌⊎◌, inl, inr, ⊎_elim}
 use native.Mathlib.Decide.{dec_le}
 use native.Mathlib.Nat.{le_refl, le_trans, one-le-mul, eq-or-lt_of_le}
 use native.Mathlib.Omega.{arith}
+use Rattle.std.proofs.lemmas.Bool.Decides.{nat_tests}
 use Rattle.graph.specs.Graph.{Graph, Group}
 use Rattle.graph.specs.Shapes.{Closed}
 use Rattle.graph.specs.Core.{Core, Nonempty, Greatest, Level, LevelAcross, EqualLevel, Before, Finding}
@@ -52,11 +53,7 @@ best-start r = record { reached = r; before = λ x y p q h n. absurd (⊎_elim (
 -- it goes on to the next x: what it keeps comes before each non-empty core of that x
 pub best-row : {g : Graph} {m n x y : ℕ} (a b : ℕ) → BestTried g m n x y → (1 ≤ a * b → Nonempty g a b) → Before a b x y
     → ((y' : ℕ) → 1 ≤ y' → Nonempty g (suc m) y' → Before a b (suc m) y') → BestTried g (suc m) n a b
-best-row {g} {m} {n} a b s r p row = best-more a b s r p new
-  where
-    new : (x' y' : ℕ) → 1 ≤ x' → 1 ≤ y' → Tried (suc m) n x' y' → Nonempty g x' y' → Tried m n x' y' ⊎ Before a b x' y'
-    new x' y' i j (inr h) e = inl (inr h)
-    new x' y' i j (inl h) e = ⊎_elim (λ t. inr (rw t (row y' j (rw t at e)))) (λ t. inl (inl (omega arith))) (eq-or-lt_of_le h)
+best-row {g} {m} {n} a b s r p row = grind (arith, nat_tests)
 
 -- or to the next y
 pub best-column : {g : Graph} {m n x y : ℕ} (a b : ℕ) → BestTried g m n x y → (1 ≤ a * b → Nonempty g a b) → Before a b x y
@@ -88,9 +85,7 @@ pruned-column {g} k {a} {b} {y} s low none x' p n = elim (dec_le s x') [ yes l �
 
 -- the factors of a product that is not 0
 pub factors : (x y : ℕ) → 1 ≤ x * y → (1 ≤ x) × (1 ≤ y)
-factors zero y p = absurd (omega arith)
-factors (suc x) zero p = absurd (omega arith)
-factors (suc x) (suc y) p = omega arith
+factors x y h = grind (arith, nat_tests)
 
 -- once each x and each y up to the equal level is tried, the best is the finding
 pub best-finding : {g : Graph} → Closed g → {j x y : ℕ} {S T : Group} → 1 ≤ j → EqualLevel g j → BestTried g j j x y → Core g x y S T → Finding g x y S T

@@ -2,23 +2,19 @@
 use Prim.Native.Nat.{ℕ, ◌+◌, ◌-◌, ◌<◌, ◌≤◌}
 use mathlib.Core.List.{List, ◌++◌}
 use mathlib.Core.Path.{◌≡◌, sym, ap, ◌∙◌}
-use native.Mathlib.Decide.{ℕ_discrete, dec_lt}
+use native.Mathlib.Decide.{dec_lt}
 use native.Mathlib.Numerals.{add-one}
 use native.Mathlib.Omega.{arith}
-use borrow.Author.Tests.{eq-eqb, ne_eqb}
 use lib.Dec.{eqb}
 use lib.ListN.{length, get_or, set, drop, replicate, get_or-replicate, length-replicate, length-append, length-drop, get_or-eq_default}
 use lib.Seq.{get_or-set_same, get_or-set_other, drop-append-add, drop-drop}
+use Rattle.std.proofs.lemmas.Bool.Decides.{nat_tests}
 use Rattle.graph.specs.Range.{sum, if, table}
 use Rattle.graph.proofs.Ranges.{table-unique}
 
 -- where the store counts one up
 pub get_or-count : (l : List ℕ) (i k : ℕ) → i < length l → get_or (set l i (get_or l i 0 + 1)) k 0 ≡ get_or l k 0 + if (eqb i k) 1
-get_or-count l i k h =
-    elim (ℕ_discrete i k) [
-      | yes e ↦ rw (eq-eqb i k e, ← e) (get_or-set_same l i (get_or l i 0 + 1) 0 h)
-      | no e ↦ rw (ne_eqb i k e, get_or-set_other l i k (get_or l i 0 + 1) 0 (λ q. e (sym q))) (omega arith)
-    ]
+get_or-count l i k h = grind (arith, nat_tests, get_or-set_same, get_or-set_other)
 
 -- every entry of a list of zeros is 0, and so is what stands past its end
 pub get_or-zeros : (n i : ℕ) → get_or {A = ℕ} (replicate n 0) i 0 ≡ 0
@@ -41,8 +37,7 @@ count-more l₀ l key e i q h c a = rw (add-one e, ← q) (omega (arith, get_or-
 -- counted from zeros, the entries are the counts
 pub count-table : (l₀ l : List ℕ) (n : ℕ) (key : ℕ → ℕ) (e : ℕ) → l₀ ≡ replicate n 0 → length l ≡ n → Counted l₀ key e l
     → l ≡ table (λ a. sum (λ d. if (eqb (key d) a) 1) e) n
-count-table l₀ l n key e z s c =
-    table-unique l _ n s (λ a h. let z' : get_or l₀ a 0 ≡ 0 = ap (λ t. get_or t a 0) z ∙ get_or-zeros n a in omega (arith, c a))
+count-table l₀ l n key e z s c = grind (arith, nat_tests, table-unique, get_or-zeros)
 
 -- what is the same past the first n entries is so past more
 pub drop_more : (l l' : List ℕ) (n k : ℕ) → n ≤ k → drop n l ≡ drop n l' → drop k l ≡ drop k l'

@@ -3,11 +3,13 @@
 use Prim.Native.Nat.{ℕ, zero, suc, ◌*◌, ◌<◌, ◌≤◌}
 use mathlib.Core.Bool.{Bool, true, false, ◌&&◌, false≢true, and-false}
 use mathlib.Core.Logic.{◌⊎◌, inl, inr, ⊎_elim}
-use mathlib.Core.Path.{◌≡◌, refl, sym, ap, ◌∙◌}
+use mathlib.Core.Path.{◌≡◌, sym, ap, ◌∙◌}
 use native.Mathlib.Nat.{mul-le-mul_right, mul-lt-mul_of_pos_right, lt_of_mul-lt-mul_right}
 use native.Mathlib.Omega.{arith}
 use borrow.Author.Tests.{lt-ltb, le-ltb, ltb-true, ltb-false, eq-eqb, ne_eqb}
 use lib.Dec.{eqb}
+use Rattle.std.proofs.lemmas.Bool.Decides.{nat_tests}
+use Rattle.std.proofs.lemmas.Bool.{cases_Bool}
 use Rattle.graph.specs.Range.{sum, if}
 use Rattle.graph.specs.Graph.{Group}
 use Rattle.graph.specs.Harmonic.{unbeaten}
@@ -15,11 +17,6 @@ use Rattle.graph.specs.Drops.{Unbeaten, smaller, Least, higher}
 use Rattle.graph.proofs.Tests.{and_both}
 use Rattle.graph.proofs.Sums.{sum-ext, sum-none, below_suc, term-le-sum}
 use Rattle.graph.proofs.Ranges.{first-le, first-ext, first-is}
-
--- a test holds or fails
-test : (b : Bool) → (b ≡ true) ⊎ (b ≡ false)
-test true = inl refl
-test false = inr refl
 
 -- what is unbeaten is what is looked for
 pub unbeaten-is : {beats : ℕ → ℕ → Bool} {R : Group} {n p : ℕ} → Unbeaten beats R n p → unbeaten beats R n ≡ p
@@ -30,7 +27,7 @@ unbeaten-is {beats} {R} {n} {p} s = first-is _ n p (omega (arith, s.below)) befo
     beaters q = sum (λ r. if (R r && beats r q) 1) n
 
     none : beaters p ≡ 0
-    none = sum-none _ n (λ q l. ⊎_elim (λ t. rw (s.best q l t, and-false)) (λ t. rw t) (test (R q)))
+    none = sum-none _ n (λ q l. ⊎_elim (λ t. rw (s.best q l t, and-false)) (λ t. rw t) (cases_Bool (R q)))
 
     before : (q : ℕ) → q < p → (R q && eqb (beaters q) 0) ≡ false
     before q l =
@@ -39,7 +36,7 @@ unbeaten-is {beats} {R} {n} {p} s = first-is _ n p (omega (arith, s.below)) befo
         let some : 1 ≤ beaters q = rw (s.member, s.earliest q l t) at (term-le-sum (λ r. if (R r && beats r q) 1) n p s.below) in
         rw t (ne_eqb (beaters q) 0 (λ z. omega arith)))
         (λ t. rw t)
-        (test (R q))
+        (cases_Bool (R q))
 
 -- so there is only one
 pub unbeaten-unique : {beats : ℕ → ℕ → Bool} {R : Group} {n p q : ℕ} → Unbeaten beats R n p → Unbeaten beats R n q → p ≡ q
@@ -49,8 +46,7 @@ unbeaten-unique s t = sym (unbeaten-is s) ∙ unbeaten-is t
 pub unbeaten-below : (beats beats' : ℕ → ℕ → Bool) (R : Group) (n : ℕ) → ((q p : ℕ) → q < n → p < n → beats q p ≡ beats' q p)
     → unbeaten beats R n ≡ unbeaten beats' R n
 unfolding unbeaten
-unbeaten-below beats beats' R n e =
-    first-ext _ _ n (λ p l. ap (λ k. R p && eqb k 0) (sum-ext n (λ q m. ap (λ b. if (R q && b) 1) (e q p m l))))
+unbeaten-below beats beats' R n e = grind (arith, nat_tests, first-ext, sum-ext)
 
 -- and where none is unbeaten it is n
 pub unbeaten-le : (beats : ℕ → ℕ → Bool) (R : Group) (n : ℕ) → unbeaten beats R n ≤ n
@@ -64,28 +60,16 @@ pub record Ranks (beats : ℕ → ℕ → Bool) (N : ℕ) : Type 0 where
 
 -- a number more that does not beat the unbeaten one, or does not count, changes nothing
 pub unbeaten-keep : {beats : ℕ → ℕ → Bool} {R : Group} {n i : ℕ} → Unbeaten beats R n i → (R n ≡ true → beats n i ≡ false) → Unbeaten beats R (suc n) i
-unbeaten-keep {beats} {R} {n} {i} s h =
-    record {
-      below = omega (arith, s.below);
-      member = s.member;
-      best = λ q l t. below_suc l (λ e. rw e (h (sym (ap R e) ∙ t))) (λ m. s.best q m t);
-      earliest = s.earliest;
-    }
+unbeaten-keep {beats} {R} {n} {i} s h = grind (arith, nat_tests)
 
 module _ {beats : ℕ → ℕ → Bool} {N : ℕ} (ranks : Ranks beats N) where
   -- no number beats itself
   self : (p : ℕ) → p < N → beats p p ≡ false
-  self p l = ⊎_elim (λ t. ranks.one_way p p l l t) (λ t. t) (test (beats p p))
+  self p l = ⊎_elim (λ t. ranks.one_way p p l l t) (λ t. t) (cases_Bool (beats p p))
 
   -- one that beats all before it is unbeaten
   alone : {R : Group} {n : ℕ} → n < N → R n ≡ true → ((q : ℕ) → q < n → R q ≡ true → beats n q ≡ true) → Unbeaten beats R (suc n) n
-  alone {R} {n} l t h =
-      record {
-        below = omega arith;
-        member = t;
-        best = λ q k m. below_suc k (λ e. rw e (self n l)) (λ b. ranks.one_way n q l (omega arith) (h q b m));
-        earliest = h;
-      }
+  alone {R} {n} l t h = grind (arith, nat_tests)
 
   -- of one number the first is unbeaten
   pub unbeaten-start : {R : Group} → 1 ≤ N → R 0 ≡ true → Unbeaten beats R 1 0
@@ -93,8 +77,7 @@ module _ {beats : ℕ → ℕ → Bool} {N : ℕ} (ranks : Ranks beats N) where
 
   -- a number more that beats the unbeaten one is unbeaten
   pub unbeaten-take : {R : Group} {n i : ℕ} → n < N → R n ≡ true → Unbeaten beats R n i → beats n i ≡ true → Unbeaten beats R (suc n) n
-  unbeaten-take {n = n} {i = i} l t s b =
-      alone l t (λ q k m. ranks.over n i q l (omega (arith, s.below)) (omega arith) b (s.best q k m))
+  unbeaten-take {n = n} {i = i} l t s b = grind (arith, nat_tests)
 
   -- so one is unbeaten, or none counts
   scan : (R : Group) (n : ℕ) → n ≤ N → ((p : ℕ) × Unbeaten beats R n p) ⊎ ((q : ℕ) → q < n → R q ≡ false)
@@ -104,16 +87,16 @@ module _ {beats : ℕ → ℕ → Bool} {N : ℕ} (ranks : Ranks beats N) where
       some : (p : ℕ) × Unbeaten beats R n p → ((p : ℕ) × Unbeaten beats R (suc n) p) ⊎ ((q : ℕ) → q < suc n → R q ≡ false)
       some (p, s) =
           ⊎_elim
-          (λ t. ⊎_elim (λ b. inl (n, unbeaten-take (omega arith) t s b)) (λ b. inl (p, unbeaten-keep s (λ m. b))) (test (beats n p)))
+          (λ t. ⊎_elim (λ b. inl (n, unbeaten-take (omega arith) t s b)) (λ b. inl (p, unbeaten-keep s (λ m. b))) (cases_Bool (beats n p)))
           (λ t. inl (p, unbeaten-keep s (λ m. absurd (false≢true (sym t ∙ m)))))
-          (test (R n))
+          (cases_Bool (R n))
 
       none : ((q : ℕ) → q < n → R q ≡ false) → ((p : ℕ) × Unbeaten beats R (suc n) p) ⊎ ((q : ℕ) → q < suc n → R q ≡ false)
       none f =
           ⊎_elim
           (λ t. inl (n, alone (omega arith) t (λ q k m. absurd (false≢true (sym (f q k) ∙ m)))))
           (λ t. inr (λ q k. below_suc k (λ e. ap R e ∙ t) (f q)))
-          (test (R n))
+          (cases_Bool (R n))
 
   -- where some number counts the one that is looked for is unbeaten
   pub unbeaten-found : (R : Group) (q : ℕ) → q < N → R q ≡ true → Unbeaten beats R N (unbeaten beats R N)
@@ -121,11 +104,7 @@ module _ {beats : ℕ → ℕ → Bool} {N : ℕ} (ranks : Ranks beats N) where
 
 -- smaller keys rank
 pub smaller-ranks : (key : ℕ → ℕ) (N : ℕ) → Ranks (smaller key) N
-smaller-ranks key N =
-    record {
-      one_way = λ p q a b h. le-ltb (key q) (key p) (omega (arith, ltb-true (key p) (key q) h));
-      over = λ p q r a b c h k. lt-ltb (key p) (key r) (omega (arith, ltb-true (key p) (key q) h, ltb-false (key r) (key q) k));
-    }
+smaller-ranks key N = grind (arith, nat_tests)
 
 -- and greater quotients do where no b is 0
 pub higher-ranks : (a b : ℕ → ℕ) (N : ℕ) → ((i : ℕ) → i < N → 1 ≤ b i) → Ranks (higher a b) N

@@ -15,6 +15,7 @@ use Rattle.graph.proofs.Tests.{and_left, and_right, and_both, test-ext}
 use Rattle.graph.proofs.Sums.{sum-ext}
 use Rattle.graph.proofs.Degrees.{only, edges-mono, edges-same, edges_some, edges-other, card-some}
 use Rattle.graph.proofs.Exists.{core-same}
+use Rattle.graph.proofs.Masks.{closed-weighing, finding-same}
 
 -- E between two groups there is E between what is of them in A and in B
 pub edges-within : (g : Graph) (A B S T : Group) → edges (within g A B) S T ≡ edges g (cut S A) (cut T B)
@@ -56,7 +57,7 @@ greatest-same {P} {Q} {k} e m = record { holds = λ p. (e k p).0 (m.holds p); ab
 module _ {g : Graph} (k : Closed g) (A B : Group) where
   -- its edges are those of the graph
   pub closed-within : Closed (within g A B)
-  closed-within = record { source-below = k.source-below; target_below = k.target_below }
+  closed-within = closed-weighing k _
 
   -- between groups inside A and B E is that of the graph
   pub edges-inside : {S T : Group} → Inside g S A → Inside g T B → edges (within g A B) S T ≡ edges g S T
@@ -138,26 +139,7 @@ module _ {g : Graph} (k : Closed g) (A B : Group) where
 
   -- and its finding, and no other
   pub finding-within : {x y : ℕ} {S T : Group} → Finding (within g A B) x y S T ↔ FindingInside g A B x y S T
-  finding-within {x} {y} {S} {T} = (there, back)
-    where
-      there : Finding (within g A B) x y S T → FindingInside g A B x y S T
-      there f =
-          record {
-            x-positive = f.x-positive;
-            y-positive = f.y-positive;
-            core = (core-inside f.x-positive f.y-positive).0 f.core;
-            some = f.some;
-            other = f.other;
-            before = λ x' y' p q n. f.before x' y' p q ((nonempty-within x' y' p q).1 n);
-          }
-
-      back : FindingInside g A B x y S T → Finding (within g A B) x y S T
-      back f =
-          record {
-            x-positive = f.x-positive;
-            y-positive = f.y-positive;
-            core = (core-inside f.x-positive f.y-positive).1 f.core;
-            some = f.some;
-            other = f.other;
-            before = λ x' y' p q n. f.before x' y' p q ((nonempty-within x' y' p q).0 n);
-          }
+  finding-within = (
+    finding-same g (within g A B).weight g.weight (λ p q. (core-inside p q).0) (λ x' y' p q. (nonempty-within x' y' p q).1),
+    finding-same g g.weight (within g A B).weight (λ p q. (core-inside p q).1) (λ x' y' p q. (nonempty-within x' y' p q).0),
+  )

@@ -1,13 +1,14 @@
 -- A group written byte by byte stands in the table's first bytes, and the later ones are as they were.
-use Prim.Native.Nat.{ℕ, ◌+◌, ◌<◌}
+use Prim.Native.Nat.{ℕ, ◌+◌, ◌-◌, ◌<◌}
 use mathlib.Core.List.{List, ◌++◌}
 use mathlib.Core.Path.{◌≡◌, refl, sym, ap, ◌∙◌}
 use native.Mathlib.Numerals.{add-one}
+use native.Mathlib.Omega.{arith}
 use lib.Dec.{eqb}
 use lib.ListN.{length, get_or, set, drop, get_or-append}
 use Rattle.graph.specs.Range.{if, flat, table}
 use Rattle.graph.specs.Graph.{Group}
-use Rattle.graph.proofs.Ranges.{table-ext, table-fill}
+use Rattle.graph.proofs.Ranges.{table-ext, table-fill, table-unique}
 use Rattle.network.specs.Groups.{group_of, bytes_of, GroupIn}
 use Rattle.network.proofs.Groups.{length-bytes_of, group_of-bytes_of}
 
@@ -20,6 +21,12 @@ fill_begins f d = refl
 pub fill-next : (f : ℕ → ℕ) (d : List ℕ) {l : List ℕ} (i : ℕ) {v : ℕ} → i < length d → l ≡ table f i ++ drop i d → v ≡ f i
     → set l i v ≡ table f (i + 1) ++ drop (i + 1) d
 fill-next f d i h e q = rw (e, q, add-one i) (table-fill f d i h)
+
+-- the first n bytes, each written as f says, and the later ones as they were
+pub at-front : (f : ℕ → ℕ) (n : ℕ) (l d : List ℕ) → length l ≡ n → ((i : ℕ) → i < n → get_or l i 0 ≡ f i) → l ++ drop (n - 0) d ≡ table f n ++ drop n d
+at-front f n l d long e =
+    let whole : n - 0 ≡ n = omega arith in
+    rw (table-unique l f n long e, whole)
 
 -- the group that is read from the bytes is the one that was written
 pub written-group : (n : ℕ) (S : Group) (s : List ℕ) {s' : List ℕ} → s' ≡ bytes_of n S ++ drop n s → (u : ℕ) → u < n → group_of s' u ≡ S u

@@ -1,20 +1,12 @@
 // The core of a work table: both groups written, and their numbers.
-ghost use Rattle.std.specs.Prelude.{false, ◌++◌, ◌≡◌, ◌+◌, ◌≤◌, leb, length, drop};
-ghost use Rattle.graph.specs.Range.{if};
+ghost use Rattle.std.specs.Prelude.{false, ◌++◌, ◌≡◌, ◌+◌, ◌≤◌, length, drop};
 ghost use Rattle.network.specs.Groups.{bytes_of};
 ghost use Rattle.peeling.specs.Peeling.{Small, Held};
 ghost use Rattle.grouping.specs.Groups.{nobody, at_least, CoreIn};
 
-use network::{Totals, wide16};
-use peeling::{Scope, degrees_at};
+use network::Totals;
+use peeling::Scope;
 use raising::whole;
-
-// The byte of a member whose degree this is.
-fn byte_of(degree: u16, least: usize) -> u8
-    ensures { result ≡ if (leb least degree) 1 }
-{
-    if least <= wide16(degree) { 1 } else { 0 }
-}
 
 // The group of those whose degree, from entry `at` of the table on, is at least `least`.
 pub fn write_group(work: &[u16], at: usize, n: usize, least: usize, group: &mut [u8])
@@ -22,18 +14,8 @@ pub fn write_group(work: &[u16], at: usize, n: usize, least: usize, group: &mut 
     requires room { n ≤ length group.old }
     ensures { group.new ≡ bytes_of n (at_least work.now at least) ++ drop n group.old }
 {
-    for u in 0..n {
-        group[u] = byte_of(work[at + u], least);
-    }
-}
-
-// A group with nobody in it.
-fn clear_group(n: usize, group: &mut [u8])
-    requires { n ≤ length group.old }
-    ensures { group.new ≡ bytes_of n nobody ++ drop n group.old }
-{
-    for member in 0..n {
-        group[member] = 0;
+    for (u, byte) in group[0..n].iter_mut().enumerate() {
+        *byte = u8::from(least <= usize::from(work[at + u]));
     }
 }
 
@@ -44,8 +26,8 @@ fn clear_groups(n: usize, s: &mut [u8], t: &mut [u8]) -> Totals
     ensures sources { s.new ≡ bytes_of n nobody ++ drop n s.old }
     ensures targets { t.new ≡ bytes_of n nobody ++ drop n t.old }
 {
-    clear_group(n, s);
-    clear_group(n, t);
+    s[0..n].fill(0);
+    t[0..n].fill(0);
     Totals {
         edges: 0,
         sources: 0,
@@ -74,7 +56,7 @@ pub fn core_in(work: &mut [u16], scope: Scope, s: &mut [u8], t: &mut [u8]) -> To
     if peel.is_cut(drain) {
         return clear_groups(n, s, t);
     }
-    let at = degrees_at(scope);
+    let at = scope.degrees_at();
     write_group(work, at, n, scope.x, s);
     write_group(work, at + n, n, scope.y, t);
     Totals {

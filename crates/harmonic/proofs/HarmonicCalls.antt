@@ -2,7 +2,6 @@
 -- found in the file.
 use Prim.Native.Nat.{ℕ}
 use mathlib.Core.List.{List, [], ◌∷◌}
-use mathlib.Core.Logic.{◌≢◌}
 use mathlib.Core.Path.{◌≡◌, refl, ap, ◌∙◌}
 use native.Mathlib.Omega.{arith}
 use lib.ListN.{length}
@@ -13,15 +12,15 @@ use Rattle.graph.specs.Harmonic.{Harmonic}
 use Rattle.graph.proofs.Sums.{sum_ones}
 use Rattle.graph.proofs.Degrees.{edges-everyone}
 use Rattle.graph.proofs.Harmonic.{harmonic-bound, harmonic-some, harmonic-none}
+use Rattle.std.specs.Prelude.{None, Some, Result, Ok, IsErr, IfErr}
 use Rattle.network.specs.declared.Refusal.{Refusal}
 use Rattle.network.specs.declared.Totals.{Totals}
-use Rattle.network.specs.declared.TotalsAnswer.TheVariants.{Counted, Refused}
-use Rattle.network.specs.File.{graph_of, none}
+use Rattle.network.specs.File.{graph_of}
 use Rattle.network.specs.Groups.{group_of, totals}
 use Rattle.network.specs.Refusals.{harmonic_refusal}
 use Rattle.network.specs.Calls as call
 use Rattle.network.proofs.Groups.{totals-same}
-use Rattle.network.proofs.Answers.{call_kept}
+use Rattle.network.proofs.Answers.{call-handed}
 use Rattle.peeling.specs.Peeling.{Tabled}
 use Rattle.filling.proofs.Times.{within_all}
 use Rattle.filling.proofs.Lists.{tabled-as}
@@ -32,13 +31,13 @@ use Rattle.harmonic.specs.Calls.{HarmonicCall}
 use Rattle.harmonic.specs.Walks.{HarmonicIn}
 
 -- a refused call has left the tables as they were
-pub harmonic-refused : {f s t w w' : List ℕ} {q : Refusal} → q ≡ harmonic_refusal f (length s) (length t) (length w) → q.number ≢ 0 → w' ≡ w
-    → HarmonicCall f s s t t w w' (Refused q)
-harmonic-refused {s = s} {t = t} e n k = call_kept e n (ap (λ w. s ∷ t ∷ w ∷ []) k)
+pub harmonic-refused : {f s t w w' : List ℕ} {q : Refusal} (answer : Result Totals Refusal) → IsErr answer → IfErr answer (λ p. p ≡ q)
+    → harmonic_refusal f (length s) (length t) (length w) ≡ Some q → w' ≡ w → HarmonicCall f s s t t w w' answer
+harmonic-refused {s = s} {t = t} answer i h e k = call-handed answer i h e (ap (λ w. s ∷ t ∷ w ∷ []) k)
 
 -- an accepted one writes what is found in the file
-pub harmonic-done : {f s s' t t' w w₁ w₂ : List ℕ} {n m : ℕ} {r : Totals} → harmonic_refusal f (length s) (length t) (length w) ≡ none
-    → Entered f ones ones (length s) (length t) w w₁ n m → HarmonicIn n m w₁ w₂ s s' t t' r → HarmonicCall f s s' t t' w w₂ (Counted r)
+pub harmonic-done : {f s s' t t' w w₁ w₂ : List ℕ} {n m : ℕ} {r : Totals} → harmonic_refusal f (length s) (length t) (length w) ≡ None
+    → Entered f ones ones (length s) (length t) w w₁ n m → HarmonicIn n m w₁ w₂ s s' t t' r → HarmonicCall f s s' t t' w w₂ (Ok r)
 harmonic-done {f} {s' = s'} {t' = t'} {w₁ = w₁} {n = n} {m = m} {r = r} e d i =
     call.accepted r e refl (record {
       found = found;

@@ -1,9 +1,8 @@
 -- What the harmonic call promises (02, wish 6).
-use Rattle.std.specs.Prelude.{ℕ, ◌≤◌, List, [], ◌∷◌, ◌≡◌, length}
+use Rattle.std.specs.Prelude.{ℕ, ◌≤◌, List, [], ◌∷◌, ◌≡◌, Result, length}
 use Rattle.graph.specs.Harmonic.{Harmonic, HarmonicBound}
+use Rattle.network.specs.declared.Refusal.{Refusal}
 use Rattle.network.specs.declared.Totals.{Totals}
-use Rattle.network.specs.declared.TotalsAnswer.{TotalsAnswer}
-use Rattle.network.specs.declared.TotalsAnswer.TheVariants.{Counted, Refused}
 use Rattle.network.specs.File.{graph_of}
 use Rattle.network.specs.Groups.{group_of}
 use Rattle.network.specs.Refusals.{harmonic_refusal}
@@ -20,6 +19,6 @@ pub record HarmonicTold (f s s' t t' w w' : List ℕ) (c : Totals) : Type 0 wher
   pub linked : 1 ≤ (graph_of f).size → 1 ≤ c.edges
 
 -- the harmonic finder
-abbrev pub HarmonicCall : (f s s' t t' w w' : List ℕ) → TotalsAnswer → Type 0
+abbrev pub HarmonicCall : (f s s' t t' w w' : List ℕ) → Result Totals Refusal → Type 0
 HarmonicCall f s s' t t' w w' =
-    Call (harmonic_refusal f (length s) (length t) (length w)) Refused Counted (s ∷ t ∷ w ∷ []) (s' ∷ t' ∷ w' ∷ []) (HarmonicTold f s s' t t' w w')
+    Call (harmonic_refusal f (length s) (length t) (length w)) (s ∷ t ∷ w ∷ []) (s' ∷ t' ∷ w' ∷ []) (HarmonicTold f s s' t t' w w')

@@ -6,26 +6,20 @@ ghost use Rattle.harmonic.specs.Walks.{HarmonicIn};
 use crate::FIRST_MARK;
 use crate::walks::best_state;
 use grouping::write_group;
-use network::Totals;
+use network::{Extent, Totals};
 
 // 02: the harmonic finder, of every graph whose rows the table holds. The places of the best state are those dropped after it, so those whose mark
 // is at least that of the next drop. Without links no place has a mark.
-pub fn harmonic_in(
-    work: &mut [u16],
-    order: usize,
-    size: usize,
-    s: &mut [u8],
-    t: &mut [u8],
-) -> Totals
-    requires small { Small order size }
-    requires held { Held order size work.old }
-    requires room { (order ≤ length s.old) × (order ≤ length t.old) }
-    ensures { HarmonicIn order size work.old work.new s.old s.new t.old t.new result }
+pub fn harmonic_in(work: &mut [u16], extent: Extent, s: &mut [u8], t: &mut [u8]) -> Totals
+    requires small { Small extent.order extent.size }
+    requires held { Held extent.order extent.size work.old }
+    requires room { (extent.order ≤ length s.old) × (extent.order ≤ length t.old) }
+    ensures { HarmonicIn extent.order extent.size work.old work.new s.old s.new t.old t.new result }
 {
-    let best = best_state(work, order, size);
-    let at = 2 * order + 1 + 2 * size;
-    let least = FIRST_MARK + (2 * order - (best.sources + best.targets));
-    write_group(work, at, order, least, s);
-    write_group(work, at + order, order, least, t);
+    let best = best_state(work, extent);
+    let at = 2 * extent.order + 1 + 2 * extent.size;
+    let least = FIRST_MARK + (2 * extent.order - (best.sources + best.targets));
+    write_group(work, at, extent.order, least, s);
+    write_group(work, at + extent.order, extent.order, least, t);
     best
 }

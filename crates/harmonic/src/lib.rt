@@ -13,14 +13,14 @@ use network::Side;
 const FIRST_MARK: usize = 32768;
 
 // 02: a place, a member on one side.
-#[derive(Clone, Copy)]
+#[derive(Clone, Copy, Debug, PartialEq, Eq)]
 pub struct Place {
     pub side: Side,
     pub member: usize,
 }
 
-// What is chosen next: a place to drop, or that all are dropped.
-#[derive(Clone, Copy)]
+// What is chosen next: a place to drop, or that all are dropped. 01 names this form.
+#[derive(Clone, Copy, Debug, PartialEq, Eq)]
 pub enum Choice {
     Drop(Place),
     Done,

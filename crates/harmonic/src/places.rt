@@ -12,8 +12,7 @@ pub fn number_of(order: usize, place: Place) -> usize
     requires is_member { place.member < order }
     ensures { result ≡ number_of order place }
 {
-    let side = place.side;
-    match side {
+    match place.side {
         Side::Source => place.member,
         Side::Target => order + place.member,
     }

@@ -4,12 +4,11 @@ ghost use Rattle.graph.specs.Graph.{Graph};
 ghost use Rattle.peeling.specs.Peeling.{Small, Held, Tabled};
 ghost use Rattle.harmonic.specs.Walks.{Picks, Next, At, Turned, Walked, BestIn, step_of, without, has_place, better};
 
-use crate::drops::{choose, drop_place};
+use crate::drops::{bracket_of, choose, drop_place};
 use crate::places::number_of;
 use crate::{Choice, FIRST_MARK, Place};
-use network::{Side, Totals, wide16};
+use network::{Extent, Side, Totals};
 use peeling::{Peel, Scope};
-use picking::build;
 
 // E, |S| and |T| without a place on a side that has so many links.
 fn less(state: Totals, side: Side, degree: usize) -> Totals
@@ -22,12 +21,12 @@ fn less(state: Totals, side: Side, degree: usize) -> Totals
         Side::Source => Totals {
             edges,
             sources: state.sources - 1,
-            targets: state.targets,
+            ..state
         },
         Side::Target => Totals {
             edges,
-            sources: state.sources,
             targets: state.targets - 1,
+            ..state
         },
     }
 }
@@ -40,6 +39,7 @@ fn better_of(best: Totals, state: Totals) -> Totals
 {
     let size = state.sources + state.targets;
     let best_size = best.sources + best.targets;
+    // `usize` has no `From<u32>`.
     if best.edges as usize * size < state.edges as usize * best_size {
         state
     } else {
@@ -49,55 +49,46 @@ fn better_of(best: Totals, state: Totals) -> Totals
 
 // One place dropped, with the next mark. E, |S| and |T| of the state after it are returned.
 #[tactic(auto, using(crate::proofs::Turns::at_size))]
-fn turn(work: &mut [u16], order: usize, size: usize, state: Totals, place: Place) -> Totals
-    requires small { Small order size }
-    requires tree { Picks order size work.old }
-    requires next { Next order size work.old place }
-    requires at { (g : Graph) × At g order size work.old (step_of order state) state }
-    ensures { Turned order size state work.old work.new result }
+fn turn(work: &mut [u16], extent: Extent, state: Totals, place: Place) -> Totals
+    requires small { Small extent.order extent.size }
+    requires tree { Picks extent.order extent.size work.old }
+    requires next { Next extent.order extent.size work.old place }
+    requires at { (g : Graph) × At g extent.order extent.size work.old (step_of extent.order state) state }
+    ensures { Turned extent.order extent.size state work.old work.new result }
 {
     let side = place.side;
-    let number = number_of(order, place);
-    let at = 2 * order + 1 + 2 * size;
-    let degree = wide16(work[at + number]);
-    let step = 2 * order - (state.sources + state.targets);
-    drop_place(work, order, size, number, (FIRST_MARK + step) as u16);
+    let number = number_of(extent.order, place);
+    let degree = usize::from(work[bracket_of(extent).at + number]);
+    let step = 2 * extent.order - (state.sources + state.targets);
+    drop_place(work, extent, number, (FIRST_MARK + step) as u16);
     less(state, side, degree)
 }
 
 // 02: all places dropped, and the best of the states before each drop: the last, empty one is none of these.
-fn walk(work: &mut [u16], order: usize, size: usize, whole: Totals) -> Totals
-    requires small { Small order size }
-    requires some_order { 1 ≤ order }
-    requires tree { Picks order size work.old }
-    requires held { Held order size work.old }
-    requires begins { (g : Graph) → Tabled g order size work.old → At g order size work.old 0 whole }
-    ensures { Walked order size work.old work.new result }
+fn walk(work: &mut [u16], extent: Extent, whole: Totals) -> Totals
+    requires small { Small extent.order extent.size }
+    requires some_order { 1 ≤ extent.order }
+    requires tree { Picks extent.order extent.size work.old }
+    requires held { Held extent.order extent.size work.old }
+    requires begins { (g : Graph) → Tabled g extent.order extent.size work.old → At g extent.order extent.size work.old 0 whole }
+    ensures { Walked extent.order extent.size work.old work.new result }
 {
     let mut state = whole;
     let mut best = whole;
-    while let Choice::Drop(place) = choose(work, order, size) {
+    while let Choice::Drop(place) = choose(work, extent) {
         best = better_of(best, state);
-        state = turn(work, order, size, state, place);
+        state = turn(work, extent, state, place);
     }
     best
 }
 
 // 02: E, |S| and |T| of the best state, or zeros where there are no links, and nothing is dropped.
-pub fn best_state(work: &mut [u16], order: usize, size: usize) -> Totals
-    requires small { Small order size }
-    requires held { Held order size work.old }
-    ensures { BestIn order size work.old work.new result }
+pub fn best_state(work: &mut [u16], extent: Extent) -> Totals
+    requires small { Small extent.order extent.size }
+    requires held { Held extent.order extent.size work.old }
+    ensures { BestIn extent.order extent.size work.old work.new result }
 {
-    let peel = Peel::fresh(
-        work,
-        Scope {
-            order,
-            size,
-            x: 0,
-            y: 0,
-        },
-    );
+    let peel = Peel::fresh(work, Scope::of(extent, 0, 0));
     if peel.edges == 0 {
         return Totals {
             edges: 0,
@@ -105,15 +96,14 @@ pub fn best_state(work: &mut [u16], order: usize, size: usize) -> Totals
             targets: 0,
         };
     }
-    build(work, 2 * order + 1 + 2 * size, 2 * order);
+    bracket_of(extent).build(work);
     walk(
         work,
-        order,
-        size,
+        extent,
         Totals {
             edges: peel.edges as u32,
-            sources: order,
-            targets: order,
+            sources: extent.order,
+            targets: extent.order,
         },
     )
 }

@@ -1,15 +1,19 @@
 -- The number of an entry, by what was tested.
 use Prim.Native.Nat.{ℕ, ◌+◌, ◌<◌, ◌≤◌}
-use mathlib.Core.Bool.{Bool, true, false, cond, ◌||◌, or-true}
-use mathlib.Core.Logic.{◌⊎◌, inl, inr}
+use mathlib.Core.Bool.{Bool, true, false, cond, ◌||◌, or-true, false≢true}
+use mathlib.Core.Logic.{◌⊎◌, ◌≢◌, inl, inr}
 use mathlib.Core.Path.{◌≡◌, ◌∙◌}
 use native.Mathlib.Omega.{arith}
 use borrow.Author.Tests.{le-leb, lt-leb, eq-eqb, ne_eqb}
-use Rattle.std.proofs.Common.{Some, None}
+use Rattle.std.proofs.Common.{Some, None, Result, Ok, Err, IsErr, IfErr}
+use Rattle.std.specs.Prelude.{⊤}
 use lib.Dec.{leb}
 use Rattle.network.specs.File.{most_links}
 use Rattle.linkset.specs.Links.{Links}
+use Rattle.journal.specs.declared.EntryRefusal.{EntryRefusal}
+use Rattle.journal.specs.declared.EntryRefusal.TheVariants as refusal
 use Rattle.journal.specs.declared.Entry.TheVariants.{Add, Withdraw, Restore}
+use Rattle.journal.specs.Tabled.{number_of, number_told}
 use Rattle.journal.specs.Journal.{given, live, due, State, place_number, number}
 
 module _ (n : ℕ) (s : State) (u v : ℕ) where
@@ -59,3 +63,17 @@ restore-unset n s x e = rw e
 pub restore-set : (n : ℕ) (s : State) (x : ℕ) (S : Links) → s.named x ≡ Some S → number n s (Restore x) ≡ 0
 unfolding number
 restore-set n s x S e = rw e
+
+-- a refusal that is handed on is told by its number,
+pub told-handed : (answer : Result ⊤ EntryRefusal) (q : EntryRefusal) → IsErr answer → IfErr answer (λ p. p ≡ q) → number_told answer ≡ number_of q
+told-handed (Ok v) q e h = absurd (false≢true e)
+told-handed (Err p) q e h = rw h
+
+-- which is never 0
+pub number-some : (q : EntryRefusal) → number_of q ≢ 0
+number-some refusal.Entry e = omega (arith, e)
+number-some refusal.Member e = omega (arith, e)
+number-some refusal.Present e = omega (arith, e)
+number-some refusal.Absent e = omega (arith, e)
+number-some refusal.Given e = omega (arith, e)
+number-some refusal.Place e = omega (arith, e)

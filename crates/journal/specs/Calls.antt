@@ -1,15 +1,14 @@
 -- What the journal call promises (02, wishes 8 and 9).
-use Rattle.std.specs.Prelude.{ℕ, true, cond, ◌||◌, List, [], ◌∷◌, ◌++◌, ◌↔◌, ◌≡◌, ltb, length, drop}
+use Rattle.std.specs.Prelude.{ℕ, true, cond, ◌||◌, List, [], ◌∷◌, ◌++◌, ◌↔◌, ◌≡◌, Option, None, Some, Result, ltb, length, drop}
 use Rattle.graph.specs.Graph.{Graph, Group, Linked}
 use Rattle.graph.specs.Core.{EqualLevelInside}
 use Rattle.graph.specs.Quiet.{OutcomeInside}
 use Rattle.network.specs.declared.Refusal.{Refusal}
-use Rattle.network.specs.File.{most_links, link_at, graph_of, none, plain, or_else, file_refusal}
+use Rattle.network.specs.declared.Refusal.TheVariants.{Table}
+use Rattle.network.specs.File.{most_links, link_at, graph_of, or_else, file_refusal}
 use Rattle.network.specs.Groups.{totals}
 use Rattle.network.specs.Calls.{Call}
 use Rattle.linkset.specs.Links.{Links}
-use Rattle.journal.specs.declared.JournalAnswer.{JournalAnswer}
-use Rattle.journal.specs.declared.JournalAnswer.TheVariants.{Written, Refused}
 use Rattle.journal.specs.Entries.{members, entries, header_refusal}
 use Rattle.journal.specs.Journal.{live, after, numbers}
 use Rattle.journal.specs.Places.{Places}
@@ -27,12 +26,12 @@ abbrev pub work_entries : ℕ
 work_entries = 81920
 
 -- the journal, how many entries are asked for, and the lengths of the output, of the table of numbers and of the work table
-unfoldable pub journal_refusal : List ℕ → ℕ → ℕ → ℕ → ℕ → Refusal
-journal_refusal j asked o r w = or_else (header_refusal j) (cond (ltb o out_length || ltb r (count_of j asked) || ltb w work_entries) (plain 9) none)
+unfoldable pub journal_refusal : List ℕ → ℕ → ℕ → ℕ → ℕ → Option Refusal
+journal_refusal j asked o r w = or_else (header_refusal j) (cond (ltb o out_length || ltb r (count_of j asked) || ltb w work_entries) (Some Table) None)
 
 -- a file of a set of links among n members: it is accepted, and so ordered, and its links are those of the set
 pub record FileOf (n : ℕ) (S : Links) (f : List ℕ) : Type 0 where
-  pub accepted : file_refusal f ≡ none
+  pub accepted : file_refusal f ≡ None
   pub order : (graph_of f).order ≡ n
   pub linked : (u v : ℕ) → Linked (graph_of f) u v ↔ (S u v ≡ true)
 
@@ -62,7 +61,7 @@ pub record JournalTold (j : List ℕ) (asked : ℕ) (out out' r r' w w' : List �
   pub work : (length w' ≡ length w) × (drop work_entries w' ≡ drop work_entries w)
 
 -- the journal call
-abbrev pub JournalCall : (j : List ℕ) (asked : ℕ) (out out' r r' w w' : List ℕ) → JournalAnswer → Type 0
+abbrev pub JournalCall : (j : List ℕ) (asked : ℕ) (out out' r r' w w' : List ℕ) → Result ℕ Refusal → Type 0
 JournalCall j asked out out' r r' w w' =
-    Call (journal_refusal j asked (length out) (length r) (length w)) Refused Written (out ∷ r ∷ w ∷ []) (out' ∷ r' ∷ w' ∷ [])
+    Call (journal_refusal j asked (length out) (length r) (length w)) (out ∷ r ∷ w ∷ []) (out' ∷ r' ∷ w' ∷ [])
     (JournalTold j asked out out' r r' w w')

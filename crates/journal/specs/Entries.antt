@@ -1,7 +1,8 @@
 -- The bytes of a journal (02, wish 8): its header and its entries.
-use Rattle.std.specs.Prelude.{ℕ, ◌+◌, ◌-◌, ◌*◌, ◌/◌, ◌%◌, not, cond, ◌&&◌, List, [], ◌∷◌, eqb, leb, ltb, length, get_or}
+use Rattle.std.specs.Prelude.{ℕ, ◌+◌, ◌-◌, ◌*◌, ◌/◌, ◌%◌, not, cond, ◌&&◌, List, [], ◌∷◌, Option, None, Some, eqb, leb, ltb, length, get_or}
 use Rattle.network.specs.declared.Refusal.{Refusal}
-use Rattle.network.specs.File.{most_members, u16_at, marked, none, plain}
+use Rattle.network.specs.declared.Refusal.TheVariants.{Short, Mark, Version, Members, Length}
+use Rattle.network.specs.File.{most_members, u16_at, marked}
 use Rattle.journal.specs.declared.Entry.{Entry}
 use Rattle.journal.specs.declared.Entry.TheVariants.{Add, Withdraw, Save, Restore, Malformed}
 
@@ -22,14 +23,14 @@ abbrev pub entries : List ℕ → ℕ
 entries j = (length j - 7) / 5
 
 -- 02: the number that a journal's header gives: 1 (under 7 bytes), 2, 3, 4, and 6 unless the rest divides by five
-unfoldable pub header_refusal : List ℕ → Refusal
+unfoldable pub header_refusal : List ℕ → Option Refusal
 header_refusal j =
-    cond (ltb (length j) 7) (plain 1)
-    (cond (not (marked journal_mark j)) (plain 2)
-    (cond (not (eqb (u16_at j 3) 1)) (plain 3)
-    (cond (ltb most_members (members j)) (plain 4)
-    (cond (not (eqb ((length j - 7) % 5) 0)) (plain 6)
-    none))))
+    cond (ltb (length j) 7) (Some Short)
+    (cond (not (marked journal_mark j)) (Some Mark)
+    (cond (not (eqb (u16_at j 3) 1)) (Some Version)
+    (cond (ltb most_members (members j)) (Some Members)
+    (cond (not (eqb ((length j - 7) % 5) 0)) (Some Length)
+    None))))
 
 -- 02: an entry from its kind and its two numbers: kind 0 adds a link and 1 withdraws one (voucher, vouched); 2 sets a named state and 3 returns to
 -- one (name 0 to 3, then 0); any other is malformed

@@ -1,6 +1,6 @@
 -- Four vouches for everyone (02, wish 9): what is promised of every journal.
-use Rattle.std.specs.Prelude.{ℕ, suc, ◌+◌, ◌<◌, ◌≤◌, false, List, ◌≢◌, ◌≡◌}
-use Rattle.network.specs.File.{most_links, none}
+use Rattle.std.specs.Prelude.{ℕ, suc, ◌+◌, ◌<◌, ◌≤◌, false, List, ◌≢◌, ◌≡◌, None}
+use Rattle.network.specs.File.{most_links}
 use Rattle.linkset.specs.Links.{Links}
 use Rattle.journal.specs.declared.Entry.TheVariants.{Add, Withdraw, Save, Restore}
 use Rattle.journal.specs.Entries.{members, header_refusal, entry_at}
@@ -23,7 +23,7 @@ pub record Places (n : ℕ) (s : State) : Type 0 where
 
 -- 02: so it is after any entries of any journal, whatever they are
 abbrev pub FourForEveryone : Type 0
-FourForEveryone = (j : List ℕ) → header_refusal j ≡ none → (k : ℕ) → Places (members j) (after j k)
+FourForEveryone = (j : List ℕ) → header_refusal j ≡ None → (k : ℕ) → Places (members j) (after j k)
 
 -- 02: returning to a named state restores both totals: they are those of when it was set last
 abbrev pub TotalsRestored : Type 0

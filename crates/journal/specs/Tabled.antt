@@ -1,10 +1,12 @@
 -- The work table and the tally hold the state of a journal. Set 0 is the links present, set x + 1 those of name x; a set starts at entry 16,384
 -- times its number.
-use Rattle.std.specs.Prelude.{ℕ, ◌+◌, ◌-◌, ◌*◌, ◌<◌, ◌≤◌, true, cond, List, ◌⊎◌, ◌≡◌, Option, Some, None, ⊤, leb, ltb, length, get_or, drop, replicate}
+use Rattle.std.specs.Prelude.{ℕ, ◌+◌, ◌-◌, ◌*◌, ◌<◌, ◌≤◌, true, cond, List, ◌⊎◌, ◌≡◌, Option, Some, None, Result, Ok, Err, ⊤, leb, ltb, length, get_or, drop, replicate}
 use Rattle.linkset.specs.Links.{Links}
 use Rattle.linkset.specs.Tables.{Keeps}
 use Rattle.journal.specs.declared.Totals.{Totals}
 use Rattle.journal.specs.declared.Tally.{Tally}
+use Rattle.journal.specs.declared.EntryRefusal.{EntryRefusal}
+use Rattle.journal.specs.declared.EntryRefusal.TheVariants as refusal
 use Rattle.journal.specs.declared.Entry.{Entry}
 use Rattle.journal.specs.declared.Entry.TheVariants.{Add, Withdraw, Save, Restore, Malformed}
 use Rattle.journal.specs.Calls.{work_entries}
@@ -49,6 +51,20 @@ pub record Tabled (n : ℕ) (s : State) (l : List ℕ) (t : Tally) : Type 0 wher
 -- they hold some state
 abbrev pub Holds : ℕ → List ℕ → Tally → Type 0
 Holds n l t = (s : State) × Tabled n s l t
+
+-- 02: the number of each refusal of an entry
+abbrev pub number_of : EntryRefusal → ℕ
+number_of refusal.Entry = 18
+number_of refusal.Member = 10
+number_of refusal.Present = 16
+number_of refusal.Absent = 17
+number_of refusal.Given = 19
+number_of refusal.Place = 20
+
+-- the number of an entry by what following it answers
+abbrev pub number_told : Result ⊤ EntryRefusal → ℕ
+number_told (Ok v) = 0
+number_told (Err r) = number_of r
 
 -- k is the entry's number, and the table and the tally hold the state after it
 pub record Turned (n : ℕ) (s : State) (e : Entry) (l : List ℕ) (t : Tally) (k : ℕ) : Type 0 where

@@ -1,29 +1,40 @@
 // The journal call.
-ghost use Rattle.std.specs.Prelude.{◌≡◌, ◌++◌, ◌≤◌, length, drop};
-ghost use Rattle.network.specs.File.{most_members, plain};
+ghost use Rattle.std.specs.Prelude.{◌||◌, ◌≡◌, ◌++◌, ◌≤◌, ltb, length, drop, None, Some, IfErr, OnOk};
+ghost use Rattle.network.specs.File.{most_members};
 ghost use Rattle.journal.specs.Entries.{members, entry_start};
 ghost use Rattle.journal.specs.Journal.{after, numbers as numbers_of};
-ghost use Rattle.journal.specs.Calls.{out_length, work_entries, journal_refusal, SetWritten, JournalCall};
+ghost use Rattle.journal.specs.Calls.{count_of, out_length, work_entries, journal_refusal, SetWritten, JournalCall};
 
-use crate::entries::{count_of, header_number};
+use crate::entries::{check_header, count_of};
 use crate::runs::run;
 use crate::writes::put_set;
-use crate::{JournalAnswer, OUT_LENGTH, WORK_LENGTH};
+use crate::{OUT_LENGTH, WORK_LENGTH};
 use network::{Refusal, u16_at};
 
-// The number of the header, then 9 by the lengths of the output, of the table of numbers and of the work table, or 0.
-#[tactic(auto, unfolding(crate::specs::Calls::journal_refusal))]
-fn refusal_number(journal: &[u8], asked: usize, out: usize, numbers: usize, work: usize) -> u16
-    ensures { journal_refusal journal.now asked out numbers work ≡ plain result }
+// Whether the output, the table of numbers or the work table is short.
+fn is_short(journal: &[u8], asked: usize, out: usize, numbers: usize, work: usize) -> bool
+    requires { 7 ≤ length journal.now }
+    ensures { result ≡ (ltb out out_length || ltb numbers (count_of journal.now asked) || ltb work work_entries) }
 {
-    let number = header_number(journal);
-    if number != 0 {
-        return number;
+    out < OUT_LENGTH || numbers < count_of(journal, asked) || work < WORK_LENGTH
+}
+
+// The header's tests, then 9 by the lengths of the output, of the table of numbers and of the work table.
+fn check_input(
+    journal: &[u8],
+    asked: usize,
+    out: usize,
+    numbers: usize,
+    work: usize,
+) -> Result<(), Refusal>
+    ensures refused { IfErr result (λ r. journal_refusal journal.now asked out numbers work ≡ Some r) }
+    ensures passed { OnOk result (journal_refusal journal.now asked out numbers work ≡ None) }
+{
+    check_header(journal)?;
+    if is_short(journal, asked, out, numbers, work) {
+        return Err(Refusal::Table);
     }
-    if out < OUT_LENGTH || numbers < count_of(journal, asked) || work < WORK_LENGTH {
-        return 9;
-    }
-    0
+    Ok(())
 }
 
 // The first `count` entries followed, and the links then present written; their number is returned.
@@ -53,15 +64,10 @@ pub fn journal(
     out: &mut [u8],
     numbers: &mut [u8],
     work: &mut [u16],
-) -> JournalAnswer
+) -> Result<usize, Refusal>
     ensures { JournalCall journal.now asked out.old out.new numbers.old numbers.new work.old work.new result }
 {
-    let number = refusal_number(journal, asked, out.len(), numbers.len(), work.len());
-    if number != 0 {
-        return JournalAnswer::Refused(Refusal::plain(number));
-    }
+    check_input(journal, asked, out.len(), numbers.len(), work.len())?;
     let count = count_of(journal, asked);
-    JournalAnswer::Written {
-        size: replay(journal, count, out, numbers, &mut work[0..WORK_LENGTH]),
-    }
+    Ok(replay(journal, count, out, numbers, &mut work[0..WORK_LENGTH]))
 }

@@ -1,34 +1,34 @@
 // The bytes of a journal, read: its header and its entries.
-ghost use Rattle.std.specs.Prelude.{◌≡◌, ◌+◌, ◌<◌, ◌≤◌, length};
-ghost use Rattle.network.specs.File.{plain};
+ghost use Rattle.std.specs.Prelude.{◌≡◌, ◌+◌, ◌<◌, ◌≤◌, length, None, Some, IfErr, OnOk};
 ghost use Rattle.journal.specs.Entries.{entry_start, header_refusal, entry_of, entry_at};
 ghost use Rattle.journal.specs.Calls.{count_of};
 ghost use Rattle.journal.specs.Tabled.{name_of};
 
 use crate::Entry;
-use network::{MOST_MEMBERS, is_marked, u16_at, wide};
+use network::{MOST_MEMBERS, Refusal, is_marked, u16_at};
 
-// The number that the header and the length give: 1, 2, 3, 4 or 6, or 0.
+// What the header and the length give: 1, 2, 3, 4 or 6, by other numbers than a network file's.
 #[tactic(auto, unfolding(crate::specs::Entries::header_refusal))]
-pub fn header_number(journal: &[u8]) -> u16
-    ensures { header_refusal journal.now ≡ plain result }
+pub fn check_header(journal: &[u8]) -> Result<(), Refusal>
+    ensures refused { IfErr result (λ r. header_refusal journal.now ≡ Some r) }
+    ensures passed { OnOk result (header_refusal journal.now ≡ None) }
 {
     if journal.len() < 7 {
-        return 1;
+        return Err(Refusal::Short);
     }
     if !is_marked(journal, b"VJN") {
-        return 2;
+        return Err(Refusal::Mark);
     }
     if u16_at(journal, 3) != 1 {
-        return 3;
+        return Err(Refusal::Version);
     }
     if MOST_MEMBERS < u16_at(journal, 5) {
-        return 4;
+        return Err(Refusal::Members);
     }
     if (journal.len() - 7) % 5 != 0 {
-        return 6;
+        return Err(Refusal::Length);
     }
-    0
+    Ok(())
 }
 
 // How many entries are followed: as many as are asked for, or all.
@@ -37,25 +37,20 @@ pub fn count_of(journal: &[u8], asked: usize) -> usize
     ensures { result ≡ count_of journal.now asked }
 {
     let entries = (journal.len() - 7) / 5;
-    if entries < asked { entries } else { asked }
+    entries.min(asked)
 }
 
+// An entry from the number of its kind and its two numbers.
 fn entry_of(kind: usize, a: usize, b: usize) -> Entry
     ensures { result ≡ entry_of kind a b }
 {
-    if kind == 0 {
-        return Entry::Add(a, b);
+    match kind {
+        0 => Entry::Add(a, b),
+        1 => Entry::Withdraw(a, b),
+        2 if a <= 3 && b == 0 => Entry::Save(a),
+        3 if a <= 3 && b == 0 => Entry::Restore(a),
+        _ => Entry::Malformed,
     }
-    if kind == 1 {
-        return Entry::Withdraw(a, b);
-    }
-    if !(kind <= 3 && a <= 3 && b == 0) {
-        return Entry::Malformed;
-    }
-    if kind == 2 {
-        return Entry::Save(a);
-    }
-    Entry::Restore(a)
 }
 
 // Entry `i`.
@@ -66,7 +61,7 @@ pub fn entry_at(journal: &[u8], i: usize) -> Entry
 {
     let at = 7 + 5 * i;
     entry_of(
-        wide(journal[at]),
+        usize::from(journal[at]),
         u16_at(journal, at + 1),
         u16_at(journal, at + 3),
     )

@@ -8,6 +8,7 @@ ghost use Rattle.journal.specs.Tabled.{Tabled};
 
 use crate::Tally;
 use crate::entries::entry_at;
+use crate::refusals::number_told;
 use crate::steps::follow;
 use network::u16_at;
 
@@ -22,8 +23,9 @@ pub fn run(journal: &[u8], count: usize, work: &mut [u16], results: &mut [u8]) -
 {
     let order = u16_at(journal, 5);
     let mut tally = Tally::new(order);
+    // The number names the entry too.
     for i in 0..count {
-        results[i] = follow(work, &mut tally, order, entry_at(journal, i));
+        results[i] = number_told(follow(work, &mut tally, order, entry_at(journal, i)));
     }
     tally
 }

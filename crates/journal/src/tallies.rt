@@ -2,9 +2,9 @@
 ghost use Rattle.std.specs.Prelude.{◌≡◌, ◌+◌, ◌<◌, ◌≤◌, Some, length, set};
 ghost use Rattle.network.specs.File.{most_links, most_members};
 ghost use Rattle.journal.specs.Journal.{place_of};
-ghost use Rattle.journal.specs.Tabled.{begin, added, withdrawn};
+ghost use Rattle.journal.specs.Tabled.{begin, added, withdrawn, number_told};
 
-use crate::{Tally, Totals};
+use crate::{EntryRefusal, Tally, Totals};
 use network::MOST_LINKS;
 
 // 02: each member is due so many vouches given,
@@ -30,18 +30,18 @@ impl Tally {
 }
 
 impl Totals {
-    // The number of an addition by a voucher that has given so many, or 0: 19 and 20.
-    pub fn place_number(self, given: usize) -> u8
+    // Whether a voucher that has given so many finds a place for an addition: 19 and 20.
+    pub fn check_place(self, given: usize) -> Result<(), EntryRefusal>
         requires { self.live + self.due ≤ most_links }
-        ensures { result ≡ place_of given (self.live + self.due) }
+        ensures { number_told result ≡ place_of given (self.live + self.due) }
     {
         if given == MOST_GIVEN {
-            return 19;
+            return Err(EntryRefusal::Given);
         }
         if DUE_EACH <= given && self.live + self.due == MOST_LINKS {
-            return 20;
+            return Err(EntryRefusal::Place);
         }
-        0
+        Ok(())
     }
 
     // A link more, of a voucher that had given so many.
@@ -52,11 +52,7 @@ impl Totals {
     {
         Totals {
             live: self.live + 1,
-            due: if given < DUE_EACH {
-                self.due - 1
-            } else {
-                self.due
-            },
+            due: self.due - usize::from(given < DUE_EACH),
         }
     }
 
@@ -68,11 +64,7 @@ impl Totals {
     {
         Totals {
             live: self.live - 1,
-            due: if given <= DUE_EACH {
-                self.due + 1
-            } else {
-                self.due
-            },
+            due: self.due + usize::from(given <= DUE_EACH),
         }
     }
 }

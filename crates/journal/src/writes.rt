@@ -5,7 +5,7 @@ ghost use Rattle.graph.specs.Range.{flat};
 ghost use Rattle.network.specs.File.{most_links, link_at};
 ghost use Rattle.journal.specs.Listed.{link_bytes, listed};
 
-use network::{link_at, put_edge, put_header, wide16};
+use network::{link_at, put_edge, put_header};
 
 // Every link, one after the other.
 fn put_links(set: &[u16], size: usize, out: &mut [u8])
@@ -13,10 +13,10 @@ fn put_links(set: &[u16], size: usize, out: &mut [u8])
     requires room { (2 * size ≤ length set.now) × (link_at size ≤ length out.old) }
     ensures { out.new ≡ sets out.old 9 (flat (link_bytes set.now) size) }
 {
-    for i in 0..size {
-        let source = wide16(set[2 * i]);
-        let target = wide16(set[2 * i + 1]);
-        put_edge(out, link_at(i), source, target);
+    let (links, _) = set[..2 * size].as_chunks::<2>();
+    for (i, link) in links.iter().enumerate() {
+        let [source, target] = *link;
+        put_edge(out, link_at(i), usize::from(source), usize::from(target));
     }
 }
 

@@ -1,9 +1,8 @@
 -- The layers call: when it is refused, and what it has done where it is not.
 use Prim.Native.Nat.{ℕ, ◌<◌, ◌≤◌}
-use mathlib.Core.Bool.{not, ◌&&◌, ◌||◌, or-true, or-false}
+use mathlib.Core.Bool.{◌||◌, or-true, or-false}
 use mathlib.Core.List.{List, ◌++◌}
-use mathlib.Core.Logic.{◌≢◌}
-use mathlib.Core.Path.{◌≡◌, refl, sym, ap, ◌∙◌}
+use mathlib.Core.Path.{◌≡◌, sym, ◌∙◌}
 use native.Mathlib.Omega.{arith}
 use borrow.Author.Tests.{lt-ltb, le-ltb, ltb-false}
 use lib.Dec.{ltb}
@@ -16,15 +15,15 @@ use Rattle.graph.proofs.Layering.{layering-same}
 use Rattle.graph.proofs.Within.{closed-within}
 use Rattle.graph.proofs.Inside.{layering-within, layering-inside-edges}
 use Rattle.graph.proofs.Groups.{layering-groups}
-use Rattle.network.specs.declared.Refusal.{Refusal}
-use Rattle.network.specs.File.{graph_of, none, plain, file_refusal}
-use Rattle.network.specs.Groups.{group_of, is_group}
+use Rattle.std.specs.Prelude.{None, Some}
+use Rattle.network.specs.declared.Refusal.TheVariants.{Table}
+use Rattle.network.specs.File.{graph_of}
+use Rattle.network.specs.Groups.{group_of}
 use Rattle.network.specs.Refusals.{short_groups, work_length, layers_refusal}
 use Rattle.network.specs.Accepted.{Accepted}
-use Rattle.network.proofs.Accepted.{Proper, none-proper, cond-proper, or_else-proper, file-proper, cond-none, or-fails, accepted-or_else, found_none, found-accepted}
+use Rattle.network.proofs.Accepted.{cond-none, or-fails, accepted, accepted-or_else}
 use Rattle.network.proofs.Groups.{among}
-use Rattle.network.proofs.Answers.{or_else-found, or_else-second}
-use Rattle.cores.specs.declared.Ask.TheVariants.{Nothing}
+use Rattle.network.proofs.Answers.{or_else-second}
 use Rattle.cores.specs.Entries.{later_refusal}
 use Rattle.cores.proofs.WayIn.{no-groups}
 use Rattle.layering.specs.Calls.{layer_in, LayersTold}
@@ -38,55 +37,30 @@ pub record Enough (f a b : List ℕ) (l w : ℕ) : Type 0 where
   pub work : work_length (graph_of f).order (graph_of f).size ≤ w
 
 module _ (f a b : List ℕ) (l w : ℕ) where
-  -- the file's own refusal comes first
-  pub layers-file : {q : Refusal} → q ≡ file_refusal f → q.number ≢ 0 → q ≡ layers_refusal f a b l w
-  unfolding layers_refusal
-  layers-file = or_else-found _
-
   -- where none is given, all is as it has to be
-  layers-enough : layers_refusal f a b l w ≡ none → Enough f a b l w
+  pub layers_ready : layers_refusal f a b l w ≡ None → Enough f a b l w
   unfolding layers_refusal
-  layers-enough e =
+  layers_ready e =
       let g = graph_of f in
       let (accept, i) = (accepted-or_else f _).0 e in
-      let (c, j) = (cond-none _ (plain 9) _ refl).0 i in
+      let (c, j) = (cond-none _ Table _).0 i in
       let (d, w-long) = (or-fails (short_groups g.order a b || ltb l g.size) (ltb w (work_length g.order g.size))).0 c in
       let (h, l-long) = (or-fails (short_groups g.order a b) (ltb l g.size)).0 d in
       let (a-long, b-long) = (or-fails (ltb (length a) g.order) (ltb (length b) g.order)).0 h in
       record { accepted = accept; a-long = ltb-false _ _ a-long; b-long = ltb-false _ _ b-long; layers = ltb-false _ _ l-long; work = ltb-false _ _ w-long }
 
-  -- it has number 0 only where it is none
-  layers-proper : Proper (layers_refusal f a b l w)
-  unfolding layers_refusal
-  layers-proper =
-      let g = graph_of f in
-      or_else-proper (file-proper f)
-      (cond-proper (short_groups g.order a b || ltb l g.size || ltb w (work_length g.order g.size)) (plain 9) refl
-      (cond-proper (not (is_group g.order a && is_group g.order b)) (plain 11) refl none-proper))
-
-  -- so none was given where its number was found to be 0
-  pub layers-found : {q : Refusal} → q ≡ layers_refusal f a b l w → q.number ≡ 0 → layers_refusal f a b l w ≡ none
-  layers-found e z = layers-proper.number-none (ap (λ t. t.number) (sym e) ∙ z)
-
-  -- and then all is as it has to be
-  pub layers_ready : {q : Refusal} → q ≡ layers_refusal f a b l w → q.number ≡ 0 → Enough f a b l w
-  layers_ready e z = layers-enough (layers-found e z)
-
-  module _ (e : file_refusal f ≡ none) where
+  module _ (h : Accepted f) where
     -- then 9 for a short layer table,
-    pub layers-short : l < (graph_of f).size → plain 9 ≡ layers_refusal f a b l w
+    pub layers-short : l < (graph_of f).size → layers_refusal f a b l w ≡ Some Table
     unfolding layers_refusal
-    layers-short h = sym (or_else-second _ e ∙ rw (lt-ltb l (graph_of f).size h, or-true))
+    layers-short k = or_else-second _ ((accepted f).1 h) ∙ rw (lt-ltb l (graph_of f).size k, or-true)
 
     -- else what comes later on the way into every call on cores
-    pub layers-later : {q : Refusal} → (graph_of f).size ≤ l → q ≡ later_refusal Nothing (graph_of f).order (graph_of f).size a b w w w → q ≡ layers_refusal f a b l w
+    pub layers-later : (graph_of f).size ≤ l → layers_refusal f a b l w ≡ later_refusal None (graph_of f).order (graph_of f).size a b w w w
     unfolding later_refusal layers_refusal
-    layers-later h i =
+    layers-later k =
         let g = graph_of f in
-        i ∙ rw (no-groups g.order g.size w (short_groups g.order a b)) (sym (or_else-second _ e ∙ rw (le-ltb l g.size h, or-false)))
-
--- what tells which refusal is that of the call, one after the other
-pub ruleset refusal_steps = (found_none, found-accepted, layers-file, layers-short, layers-later)
+        or_else-second _ ((accepted f).1 h) ∙ rw (le-ltb l g.size k, or-false, no-groups g.order g.size w (short_groups g.order a b))
 
 -- layers of the links from A to B in the first m entries of the one table, made in the entries of the other that are needed, are what the call
 -- promises

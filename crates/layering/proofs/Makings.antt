@@ -10,7 +10,6 @@ use Rattle.graph.specs.Graph.{Graph}
 use Rattle.graph.specs.Shapes.{Closed}
 use Rattle.graph.specs.Layers.{keep, Layering}
 use Rattle.graph.proofs.Sums.{sum-empty, sum-none}
-use Rattle.graph.proofs.Masks.{closed-weighing}
 use Rattle.graph.proofs.Layered.{layered-size, layered-ends}
 use Rattle.network.specs.File.{most_links}
 use Rattle.filling.proofs.Times.{list_same, list-front}
@@ -47,9 +46,9 @@ module _ (g : Graph) (p : ℕ → Bool) (small : g.size ≤ most_links) {t l : L
         list_length = omega (arith, length-append q (drop s l), length-drop s l, b.list_length, turn-front, a.few, a.list_length);
       }
 
-  -- and there are no more layers than edges
-  pub turn-few : {t' q : List ℕ} {n : ℕ} → Closed g → OneMore g k t t' (take s l) q n → k + 1 ≤ g.size
-  turn-few c b = layered-size (closed-weighing c _) (turn-next b).making.layered
+-- there are no more layers than edges
+pub turn-few : {g : Graph} {t l : List ℕ} {k r : ℕ} → Turn g t l k r → Closed g → k ≤ g.size
+turn-few a c = layered-size c a.making.layered
 
 -- and once the list is empty all are made
 pub turn-ends : {g : Graph} {t l : List ℕ} {k : ℕ} → Closed g → Turn g t l k 0 → Layering g (layer_in t) k

@@ -1,15 +1,15 @@
 -- One layer taken from a list: the finding of the links in no layer makes the next layer, and what is sifted is again the links in no layer. The
 -- links are those of a graph in which only some edges count.
 use Prim.Native.Nat.{ℕ, suc, ◌+◌, ◌<◌, ◌≤◌}
-use mathlib.Core.Bool.{Bool, true, false, ◌&&◌, cond}
+use mathlib.Core.Bool.{Bool, ◌&&◌}
 use mathlib.Core.List.{List}
-use mathlib.Core.Path.{◌≡◌, refl, ap, ◌∙◌}
+use mathlib.Core.Path.{◌≡◌, ap, ◌∙◌}
 use native.Mathlib.Nat.{le_trans}
 use native.Mathlib.Numerals.{add-one}
 use native.Mathlib.Omega.{arith}
-use borrow.Author.Tests.{ne_eqb}
 use lib.Dec.{eqb, leb}
 use lib.ListN.{length, get_or}
+use Rattle.std.proofs.lemmas.Bool.Decides.{nat_tests}
 use Rattle.graph.specs.Range.{if}
 use Rattle.graph.specs.Graph.{Graph, Group}
 use Rattle.graph.specs.Shapes.{Closed, total}
@@ -32,16 +32,7 @@ lists-some g l below p = le_trans (times-entry l (length l) 0 p) (term-le-sum (o
 module _ {g : Graph} (c : Closed g) (p : ℕ → Bool) (t : List ℕ) {l : List ℕ} {k : ℕ} (m : Making (keep g p) t l k (length l)) where
   -- an edge of the list from S to T is a link from S to T that is in no layer, and no other edge is
   listed : (S T : Group) (e : ℕ) → e < g.size → (leb 1 (times l (length l) e) && joins g S T e) ≡ (eqb (layer_in t e) 0 && joins (keep g p) S T e)
-  listed S T e h = rw (m.left.weighs e h) (test (eqb (layer_in t e) 0) (p e) (g.weight e) (S (g.source e) && T (g.target e)))
-    where
-      once : (a b : Bool) → (a && (a && b)) ≡ (a && b)
-      once true b = refl
-      once false b = refl
-
-      test : (z b : Bool) (w : ℕ) (j : Bool) → (leb 1 (if z (if b w)) && (leb 1 w && j)) ≡ (z && (leb 1 (if b w) && j))
-      test false b w j = refl
-      test true false w j = refl
-      test true true w j = once (leb 1 w) j
+  listed S T e h = grind (arith, nat_tests)
 
   module _ {d : ℕ} {S T : Group} {t' : List ℕ} (h : TakenFrom g S T d l (length l) t t') (new : d ≡ suc k) where
     -- so what is taken from it, between the groups of its finding, is the next layer
@@ -53,12 +44,7 @@ module _ {g : Graph} (c : Closed g) (p : ℕ → Bool) (t : List ℕ) {l : List 
 
     -- an edge that is in no layer then was in none before
     was-in-none : (e w : ℕ) → if (eqb (layer_in t' e) 0) (if (eqb (layer_in t e) 0) w) ≡ if (eqb (layer_in t' e) 0) w
-    was-in-none e w = rw (h.taken e) (go (leb 1 (times l (length l) e) && joins g S T e) (eqb (layer_in t e) 0) refl)
-      where
-        go : (b z : Bool) → eqb (layer_in t e) 0 ≡ z → if (eqb (cond b d (layer_in t e)) 0) (if z w) ≡ if (eqb (cond b d (layer_in t e)) 0) w
-        go true z i = rw (ne_eqb d 0 (omega (arith, new)))
-        go false true i = refl
-        go false false i = rw i
+    was-in-none e w = grind (arith, nat_tests)
 
     -- and what is sifted from the list is the links that are in none then
     sifted-left : {l' : List ℕ} {r : ℕ} → Sifted t' l l' (length l) r → ListOf (unlayered (keep g p) (layer_in t')) l' r

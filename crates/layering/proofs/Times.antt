@@ -1,6 +1,6 @@
 -- The edges of a list are taken into a layer, and the others are moved to its front.
-use Prim.Native.Nat.{ℕ, ◌+◌, ◌<◌, ◌≤◌}
-use mathlib.Core.Bool.{Bool, true, false, ◌&&◌, cond}
+use Prim.Native.Nat.{ℕ, ◌+◌, ◌<◌}
+use mathlib.Core.Bool.{Bool, true, false, ◌&&◌, cond, and-false}
 use mathlib.Core.List.{List}
 use mathlib.Core.Logic.{◌≢◌}
 use mathlib.Core.Path.{◌≡◌, refl, sym, ap, ◌∙◌}
@@ -14,7 +14,7 @@ use lib.Seq.{get_or-set_same, get_or-set_other}
 use Rattle.graph.specs.Range.{if}
 use Rattle.graph.specs.Graph.{Graph, Group}
 use Rattle.graph.specs.Layers.{joins}
-use Rattle.graph.proofs.Tests.{if-other}
+use Rattle.graph.proofs.Tests.{if-le, if-add, if-other, if-zero}
 use Rattle.graph.proofs.Sums.{sum-next, sum-empty}
 use Rattle.filling.specs.Listed.{times}
 use Rattle.filling.proofs.Times.{times-entry, times-put}
@@ -49,11 +49,7 @@ module _ {g : Graph} {S T : Group} {c : ℕ} (l : List ℕ) where
           here : (d : ℕ) → get_or l k 0 ≡ d → layer_in (set t₁ (get_or l k 0) c) d ≡ c
           here d i = rw (sym i) (get_or-set_same t₁ (get_or l k 0) c 0 below)
       each d true j (no n) = get_or-set_other t₁ (get_or l k 0) d c 0 (λ i. n (sym i)) ∙ h.taken d ∙ rw (other d n)
-      each d false j (yes i) = h.taken d ∙ outside (leb 1 (times l k d)) ∙ sym (outside (leb 1 (times l (k + 1) d)))
-        where
-          outside : (b : Bool) → cond (b && joins g S T d) c (layer_in t d) ≡ layer_in t d
-          outside true = rw (sym (ap (joins g S T) i) ∙ j)
-          outside false = refl
+      each d false j (yes i) = let none : joins g S T d ≡ false = sym (ap (joins g S T) i) ∙ j in h.taken d ∙ simp (none, and-false)
       each d false j (no n) = h.taken d ∙ rw (other d n)
 
 -- at first nothing is moved
@@ -61,20 +57,16 @@ pub sifted-begins : (t l : List ℕ) → Sifted t l l 0 0
 sifted-begins t l =
     record {
       few = omega arith;
-      kept = λ e. rw (sum-empty (λ i. if (eqb (get_or l i 0) e) 1)) (none (eqb (layer_in t e) 0));
+      kept = λ e. rw (sum-empty (λ i. if (eqb (get_or l i 0) e) 1)) (sym (if-zero (eqb (layer_in t e) 0)));
       ahead = λ i h. refl;
       same_length = refl;
     }
-  where
-    none : (b : Bool) → 0 ≡ if b 0
-    none true = refl
-    none false = refl
 
 -- then one entry more: it is moved to the place after those that stay, and counts there where it is in no layer
 pub sifted-next : {t l l₁ l₂ : List ℕ} {k r r₂ : ℕ} → Sifted t l l₁ k r → k < length l → l₂ ≡ set l₁ r (get_or l₁ k 0)
     → r₂ ≡ r + if (eqb (layer_in t (get_or l₁ k 0)) 0) 1 → Sifted t l l₂ (k + 1) r₂
 sifted-next {t} {l} {l₁} {l₂} {k} {r} h below e p = rw (e, p) record {
-  few = few (eqb (layer_in t d) 0);
+  few = omega (arith, h.few, if-le (eqb (layer_in t d) 0) 1);
   kept = λ a. times-put l₁ r d (omega (arith, h.few, h.same_length)) a (eqb (layer_in t d) 0) ∙ ap (λ n. n + if (eqb (layer_in t d) 0) (if (eqb d a) 1)) (h.kept a) ∙ counted a;
   ahead = λ i m. get_or-set_other l₁ r i d 0 (λ j. omega (arith, h.few)) ∙ h.ahead i (omega arith);
   same_length = length-set l₁ r d ∙ h.same_length;
@@ -82,10 +74,6 @@ sifted-next {t} {l} {l₁} {l₂} {k} {r} h below e p = rw (e, p) record {
   where
     d : ℕ
     d = get_or l₁ k 0
-
-    few : (b : Bool) → r + if b 1 ≤ k + 1
-    few true = omega (arith, h.few)
-    few false = omega (arith, h.few)
 
     -- in the list as it was the entry is the next
     last : (a : ℕ) → times l (k + 1) a ≡ times l k a + if (eqb d a) 1
@@ -95,16 +83,11 @@ sifted-next {t} {l} {l₁} {l₂} {k} {r} h below e p = rw (e, p) record {
     counted : (a : ℕ) → if (eqb (layer_in t a) 0) (times l k a) + if (eqb (layer_in t d) 0) (if (eqb d a) 1) ≡ if (eqb (layer_in t a) 0) (times l (k + 1) a)
     counted a =
         elim (ℕ_discrete d a) [
-          | yes i ↦ ap (λ b. if (eqb (layer_in t a) 0) (times l k a) + if (eqb (layer_in t b) 0) (if (eqb d a) 1)) i ∙ both (times l k a) (if (eqb d a) 1) (eqb (layer_in t a) 0) (last a)
-          | no n ↦ one (times l k a) (if (eqb d a) 1) (eqb (layer_in t a) 0) (eqb (layer_in t d) 0) (if-other d a 1 n) (last a)
+          | yes i ↦
+              ap (λ b. if (eqb (layer_in t a) 0) (times l k a) + if (eqb (layer_in t b) 0) (if (eqb d a) 1)) i
+              ∙ sym (if-add (eqb (layer_in t a) 0) (times l k a) (if (eqb d a) 1)) ∙ ap (if (eqb (layer_in t a) 0)) (sym (last a))
+          | no n ↦
+              let zero = if-other d a 1 n in
+              let same : times l (k + 1) a ≡ times l k a = omega (arith, zero, last a) in
+              omega (arith, ap (if (eqb (layer_in t d) 0)) zero, if-zero (eqb (layer_in t d) 0), ap (if (eqb (layer_in t a) 0)) same)
         ]
-      where
-        both : (x y : ℕ) {z : ℕ} (b : Bool) → z ≡ x + y → if b x + if b y ≡ if b z
-        both x y true e = sym e
-        both x y false e = refl
-
-        one : (x y : ℕ) {z : ℕ} (b c : Bool) → y ≡ 0 → z ≡ x + y → if b x + if c y ≡ if b z
-        one x y true true i e = omega arith
-        one x y true false i e = omega arith
-        one x y false true i e = omega arith
-        one x y false false i e = refl

@@ -1,15 +1,14 @@
 -- What the layers call promises: 02, wishes 1 and 5, as one statement.
-use Rattle.std.specs.Prelude.{ℕ, suc, List, [], ◌∷◌, ◌≡◌, length, get_or, drop}
+use Rattle.std.specs.Prelude.{ℕ, suc, List, [], ◌∷◌, ◌≡◌, Result, length, get_or, drop}
 use Rattle.graph.specs.Range.{sum}
 use Rattle.graph.specs.Graph.{edges}
 use Rattle.graph.specs.Layers.{edges_in, LayeringInside}
+use Rattle.network.specs.declared.Refusal.{Refusal}
 use Rattle.network.specs.File.{graph_of}
 use Rattle.network.specs.Groups.{group_of, Among}
 use Rattle.network.specs.Refusals.{layers_refusal}
 use Rattle.network.specs.Calls.{Call}
 use Rattle.cores.specs.Calls.{WorkKept}
-use Rattle.layering.specs.declared.LayersAnswer.{LayersAnswer}
-use Rattle.layering.specs.declared.LayersAnswer.TheVariants.{Made, Refused}
 
 -- 02: the layer that a table has for link e
 abbrev pub layer_in : List ℕ → ℕ → ℕ
@@ -25,7 +24,7 @@ pub record LayersTold (f a b t t' w w' : List ℕ) (K : ℕ) : Type 0 where
   pub work : WorkKept f w w'
 
 -- the layers
-abbrev pub LayersCall : (f a b t t' w w' : List ℕ) → LayersAnswer → Type 0
+abbrev pub LayersCall : (f a b t t' w w' : List ℕ) → Result ℕ Refusal → Type 0
 LayersCall f a b t t' w w' =
-    Call (layers_refusal f a b (length t) (length w)) Refused Made (t ∷ w ∷ []) (t' ∷ w' ∷ [])
+    Call (layers_refusal f a b (length t) (length w)) (t ∷ w ∷ []) (t' ∷ w' ∷ [])
     (LayersTold f a b t t' w w')

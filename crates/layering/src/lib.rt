@@ -4,13 +4,4 @@
 mod asks;
 mod takes;
 
-use network::Refusal;
-
-// What the layers call answers: the number of layers, or the refusal.
-#[derive(Clone, Copy)]
-pub enum LayersAnswer {
-    Made(usize),
-    Refused(Refusal),
-}
-
 pub use asks::layers;

@@ -1,8 +1,7 @@
 // The layers, one after the other. A list has the edges that are in no layer yet, and the work table is filled from it anew for each layer, so
 // that a layer costs what is still in.
-ghost use Rattle.std.specs.Prelude.{cond, ◌≡◌, ℕ, ◌+◌, ◌<◌, ◌≤◌, eqb, length, get_or, set};
-ghost use Rattle.graph.specs.Range.{if};
-ghost use Rattle.graph.specs.Layers.{joins, Layering};
+ghost use Rattle.std.specs.Prelude.{◌≡◌, ℕ, ◌+◌, ◌<◌, ◌≤◌, length, get_or};
+ghost use Rattle.graph.specs.Layers.{Layering};
 ghost use Rattle.graph.specs.Within.{within};
 ghost use Rattle.network.specs.File.{most_links, graph_of};
 ghost use Rattle.network.specs.Groups.{group_of};
@@ -13,23 +12,9 @@ ghost use Rattle.layering.specs.Calls.{layer_in};
 ghost use Rattle.layering.specs.Takings.{TakenFrom, Sifted, OneMore};
 
 use filling::{fill, is_between, list_edges};
-use network::{MOST_LINKS, MOST_MEMBERS, order_of, wide16};
+use network::{Extent, MOST_LINKS, MOST_MEMBERS, order_of};
 use ordering::clear;
 use searching::find_in;
-
-// An edge from S to T put into a layer.
-fn take_edge(file: &[u8], edge: usize, s: &[u8], t: &[u8], layer: u16, layers: &mut [u16])
-    requires sound { Sound file.now }
-    requires is_edge { edge < (graph_of file.now).size }
-    requires groups { ((graph_of file.now).order ≤ length s.now) × ((graph_of file.now).order ≤ length t.now) }
-    requires room { (graph_of file.now).size ≤ length layers.old }
-    ensures { layers.new ≡ cond (joins (graph_of file.now) (group_of s.now) (group_of t.now) edge) (set layers.old edge layer) layers.old }
-{
-    if !is_between(file, edge, s, t) {
-        return;
-    }
-    layers[edge] = layer;
-}
 
 // Every edge of the list from S to T put into a layer.
 fn take_edges(file: &[u8], edges: &[u16], s: &[u8], t: &[u8], layer: u16, layers: &mut [u16])
@@ -39,16 +24,12 @@ fn take_edges(file: &[u8], edges: &[u16], s: &[u8], t: &[u8], layer: u16, layers
     requires room { (graph_of file.now).size ≤ length layers.old }
     ensures { TakenFrom (graph_of file.now) (group_of s.now) (group_of t.now) layer edges.now (length edges.now) layers.old layers.new }
 {
-    for i in 0..edges.len() {
-        take_edge(file, wide16(edges[i]), s, t, layer, layers);
+    for edge in edges {
+        let edge = usize::from(*edge);
+        if is_between(file, edge, s, t) {
+            layers[edge] = layer;
+        }
     }
-}
-
-// 1 for an edge that stays in the list, since it is in no layer, else 0.
-fn stays(layer: u16) -> usize
-    ensures { result ≡ if (eqb layer 0) 1 }
-{
-    if layer == 0 { 1 } else { 0 }
 }
 
 // The edges of the list that are in no layer moved to its front, in order, and how many they are. An edge is moved first and counted then, so that
@@ -58,10 +39,11 @@ fn sift(layers: &[u16], edges: &mut [u16]) -> usize
     ensures { Sifted layers.now edges.old edges.new (length edges.old) result }
 {
     let mut left = 0;
+    // The list is read and written in one pass, so that both places are indices.
     for i in 0..edges.len() {
         let edge = edges[i];
         edges[left] = edge;
-        left += stays(layers[wide16(edge)]);
+        left += usize::from(layers[usize::from(edge)] == 0);
     }
     left
 }
@@ -88,7 +70,11 @@ fn take_layer(
     let mut s = [0u8; MOST_MEMBERS];
     let mut t = [0u8; MOST_MEMBERS];
     fill(file, edges, work);
-    find_in(work, order_of(file), edges.len(), &mut s, &mut t);
+    let extent = Extent {
+        order: order_of(file),
+        size: edges.len(),
+    };
+    find_in(work, extent, &mut s, &mut t);
     take_edges(file, edges, &s, &t, (made + 1) as u16, layers);
     sift(layers, edges)
 }

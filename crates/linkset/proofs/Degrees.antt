@@ -4,11 +4,14 @@ use mathlib.Core.Bool.{Bool, true}
 use mathlib.Core.List.{List}
 use mathlib.Core.Logic.{◌⊎◌, inl, inr, ◌≢◌}
 use mathlib.Core.Path.{◌≡◌}
-use native.Mathlib.Decide.{ℕ_discrete, dec_lt}
+use native.Mathlib.Decide.{dec_lt}
+use native.Mathlib.Numerals.{add-one}
 use native.Mathlib.Omega.{arith}
-use borrow.Author.Tests.{eq-eqb, lt-ltb, le-ltb, ne_eqb}
+use borrow.Author.Tests.{eq-eqb, lt-ltb, le-ltb}
 use lib.Dec.{eqb, ltb}
+use Rattle.std.proofs.lemmas.Bool.Decides.{nat_tests}
 use Rattle.graph.specs.Range.{sum, if}
+use Rattle.graph.proofs.Tests.{if-suc}
 use Rattle.graph.proofs.Sums.{sum-ext, sum-add, sum-after, sum-front, sum-none, sum_ones}
 use Rattle.linkset.specs.Tables.{source_at, Sorted, Parted, Place, Narrowed, earlier, degree_of, most_of_source}
 use Rattle.linkset.proofs.Places.{before-source, from-source, source-ascends}
@@ -38,14 +41,7 @@ sum-run test m d k l holds =
 
 -- a number is below u + 1 where it is below u or u itself
 if-next : (t u : ℕ) → if (ltb t (u + 1)) 1 ≡ if (ltb t u) 1 + if (eqb t u) 1
-if-next t u =
-    elim (dec_lt t u) [
-      | yes l ↦ rw (lt-ltb t (u + 1) (omega arith), lt-ltb t u l, ne_eqb t u (omega arith)) (omega arith)
-      | no l ↦ elim (ℕ_discrete t u) [
-        | yes e ↦ rw (lt-ltb t (u + 1) (omega arith), le-ltb t u (omega arith), eq-eqb t u e) (omega arith)
-        | no e ↦ rw (le-ltb t (u + 1) (omega arith), le-ltb t u (omega arith), ne_eqb t u e)
-      ]
-    ]
+if-next t u = rw (add-one u) (if-suc t u)
 
 module _ (l : List ℕ) (m u : ℕ) where
   -- the links of a source stand from where links have a source below it no more up to where they have one below the next
@@ -116,11 +112,7 @@ module _ (l : List ℕ) (m u : ℕ) where
 
       -- near the place,
       pub ends-near : (m < r + 4) ⊎ (source_at l (r + 3) ≢ u) → Narrowed (earlier 1 l (u + 1) 0) m r (min m (r + 3) - r)
-      ends-near other = ends r (min m (r + 3) - r) (omega arith) (omega (arith, at.most)) (λ e k i. absurd (omega arith)) (past other)
-        where
-          past : (m < r + 4) ⊎ (source_at l (r + 3) ≢ u) → (e : ℕ) → r + (min m (r + 3) - r) ≤ e → e < m → source_at l e ≢ u
-          past (inl o) e k j q = omega arith
-          past (inr o) e k j q = o (omega (arith, q, own-from (r + 3) (omega arith) (omega arith), source-ascends l m (r + 3) e s (omega arith) j))
+      ends-near other = grind (arith, nat_tests)
 
       -- or farther off
       pub ends-far : r + 4 ≤ m → source_at l (r + 3) ≡ u → Narrowed (earlier 1 l (u + 1) 0) m (r + 4) (min m (r + most_of_source) - (r + 4))

@@ -7,6 +7,7 @@ use native.Mathlib.Decide.{dec_lt}
 use native.Mathlib.Omega.{arith}
 use borrow.Author.Tests.{ltb-true, lt-ltb, le-ltb}
 use lib.Dec.{eqb, ltb}
+use Rattle.std.proofs.lemmas.Bool.{false_from_ne_true}
 use Rattle.graph.specs.Range.{if}
 use Rattle.graph.proofs.Order.{lexicographic-less, lexicographic-same, lexicographic-either}
 use Rattle.linkset.specs.Tables.{source_at, target_at, before_at, Sorted, earlier, Narrowed, quarter_of, told, passed}
@@ -50,11 +51,7 @@ module _ (ends : ℕ) (l : List ℕ) (m a b : ℕ) (s : Sorted l m) where
 
   -- and of none from one on of which it does not
   before-none : (e : ℕ) → earlier ends l a b e ≡ false → (d : ℕ) → e ≤ d → d < m → earlier ends l a b d ≡ false
-  before-none e f d k h = go (earlier ends l a b d) refl
-    where
-      go : (t : Bool) → earlier ends l a b d ≡ t → t ≡ false
-      go false q = refl
-      go true q = absurd (false≢true (sym f ∙ before-all d h q e k))
+  before-none e f d k h = false_from_ne_true _ (λ q. false≢true (sym f ∙ before-all d h q e k))
 
   -- after a turn of the search
   pub narrowed-next : {low left : ℕ} → Narrowed (earlier ends l a b) m low left → 0 < left

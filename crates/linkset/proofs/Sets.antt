@@ -1,25 +1,27 @@
 -- A table that keeps a set of links: what its places tell, and what is kept when a link is put in or taken out, or when the table is copied.
 use Prim.Native.Nat.{ℕ, zero, suc, ◌+◌, ◌*◌, ◌<◌, ◌≤◌}
-use mathlib.Core.Bool.{Bool, true, false, not, ◌&&◌, ◌||◌, false≢true}
+use mathlib.Core.Bool.{Bool, true, false, not, ◌||◌, false≢true}
 use mathlib.Core.List.{List}
 use mathlib.Core.Logic.{◌↔◌}
 use mathlib.Core.Path.{◌≡◌, refl, sym, ap, ◌∙◌}
 use native.Mathlib.Decide.{ℕ_discrete, dec_lt}
 use native.Mathlib.Omega.{arith}
-use borrow.Author.Tests.{eqb-true, ltb-true, ltb-false, eq-eqb, lt-ltb, le-ltb}
+use borrow.Author.Tests.{eqb-true, not-true, eq-eqb, le-ltb}
 use lib.Dec.{eqb, ltb}
 use lib.ListN.{get_or}
+use Rattle.std.proofs.lemmas.Bool.Decides.{nat_tests}
+use Rattle.std.proofs.lemmas.Bool.{and_parts, or_right}
 use Rattle.graph.specs.Range.{sum, if}
 use Rattle.graph.specs.Order.{lexicographic}
-use Rattle.graph.proofs.Tests.{and_left, and_right, and_both, test-ext, test-fails}
+use Rattle.graph.proofs.Tests.{and_both, test-ext, test-fails}
 use Rattle.graph.proofs.Sums.{sum-ext, sum-none, sum-pick}
-use Rattle.graph.proofs.Order.{lexicographic-less, lexicographic-same}
+use Rattle.graph.proofs.Order.{lexicographic-same}
 use Rattle.linkset.specs.Links.{Links, empty, is, with, without}
 use Rattle.linkset.specs.Tables.{source_at, target_at, before_at, Sorted, Stands, Keeps, Place, is_at, Inserted, Removed}
 
 -- two links are the same exactly when their ends are
 pub is_same : (a b u v : ℕ) → is a b u v ≡ true → (u ≡ a) × (v ≡ b)
-is_same a b u v t = (eqb-true u a (and_left (eqb u a) (eqb v b) t), eqb-true v b (and_right (eqb u a) (eqb v b) t))
+is_same a b u v t = let (p, q) = and_parts (eqb u a) (eqb v b) t in (eqb-true u a p, eqb-true v b q)
 
 same-is : (a b u v : ℕ) → u ≡ a → v ≡ b → is a b u v ≡ true
 same-is a b u v p q = and_both (eq-eqb u a p) (eq-eqb v b q)
@@ -30,16 +32,7 @@ not_itself a b = lexicographic-same a a _ refl ∙ le-ltb b b (omega arith)
 
 -- of two links that differ, one comes before the other
 before-other : (u v a b : ℕ) → lexicographic u a (ltb v b) ≡ false → (u ≡ a → v ≡ b → ⊥) → lexicographic a u (ltb b v) ≡ true
-before-other u v a b f ne =
-    elim (dec_lt u a) [
-      | yes l ↦ absurd (false≢true (sym f ∙ lexicographic-less u a _ l))
-      | no l ↦ elim (ℕ_discrete u a) [
-        | yes q ↦
-            let k : b ≤ v = ltb-false v b (sym (lexicographic-same u a _ q) ∙ f) in
-            lexicographic-same a u _ (sym q) ∙ lt-ltb b v (elim (ℕ_discrete v b) [ yes p ↦ absurd (ne q p) | no p ↦ omega arith ])
-        | no q ↦ lexicographic-less a u _ (omega arith)
-      ]
-    ]
+before-other u v a b f ne = grind (arith, nat_tests)
 
 -- no two links of a table are the same
 pub sorted-once : (l : List ℕ) (m d e : ℕ) → Sorted l m → d < m → e < m → source_at l d ≡ source_at l e → target_at l d ≡ target_at l e → d ≡ e
@@ -58,40 +51,11 @@ keeps-none l = record { sorted = record { ascends = λ d e h k. absurd (omega ar
 
 -- a table that has the same entries keeps the same set
 pub keeps_same : (S : Links) (l l' : List ℕ) (m : ℕ) → ((k : ℕ) → k < 2 * m → get_or l' k 0 ≡ get_or l k 0) → Keeps S l m → Keeps S l' m
-keeps_same S l l' m same h =
-    record {
-      sorted = record { ascends = λ d e i j. rw (source d (omega arith), target d (omega arith), source e j, target e j) (h.sorted.ascends d e i j) };
-      linked = λ u v. (
-        λ (e, i, p, q). (h.linked u v).0 (e, i, sym (source e i) ∙ p, sym (target e i) ∙ q),
-        λ t. let (e, i, p, q) = (h.linked u v).1 t in (e, i, source e i ∙ p, target e i ∙ q),
-      );
-    }
-  where
-    source : (e : ℕ) → e < m → source_at l' e ≡ source_at l e
-    source e i = same (2 * e) (omega arith)
-
-    target : (e : ℕ) → e < m → target_at l' e ≡ target_at l e
-    target e i = same (2 * e + 1) (omega arith)
+keeps_same S l l' m same h = grind (arith, nat_tests)
 
 -- a link is in the set exactly where it stands at its place
 pub keeps-at : (S : Links) (l : List ℕ) (m a b r : ℕ) → Keeps S l m → Place l m a b r → is_at l m r a b ≡ S a b
-keeps-at S l m a b r h pl = test-ext _ _ is-in stands
-  where
-    is-in : is_at l m r a b ≡ true → S a b ≡ true
-    is-in t =
-        let (p, q) = is_same a b _ _ (and_right (ltb r m) _ t) in
-        (h.linked a b).0 (r, ltb-true r m (and_left (ltb r m) _ t), p, q)
-
-    stands : S a b ≡ true → is_at l m r a b ≡ true
-    stands t =
-        let (e, k, p, q) = (h.linked a b).1 t in
-        elim (ℕ_discrete r e) [
-          | yes i ↦ rw i (and_both (lt-ltb e m k) (same-is a b _ _ p q))
-          | no i ↦ elim (dec_lt e r) [
-            | yes j ↦ absurd (false≢true (sym (not_itself a b) ∙ (rw (p, q) at (pl.before e j))))
-            | no j ↦ absurd (false≢true (sym (pl.from r (omega arith) (omega arith)) ∙ (rw (p, q) at (h.sorted.ascends r e (omega arith) k))))
-          ]
-        ]
+keeps-at S l m a b r h pl = grind (arith, nat_tests)
 
 -- each link of the set stands once in the table
 pub keeps-once : (S : Links) (l : List ℕ) (m u v : ℕ) → Keeps S l m → sum (λ e. if (is u v (source_at l e) (target_at l e)) 1) m ≡ if (S u v) 1
@@ -132,11 +96,7 @@ module _ (S : Links) (l l' : List ℕ) (m r a b : ℕ) (h : Keeps S l m) (pl : P
   linked-inserted u v = (read, λ t. put (is a b u v) refl t)
     where
       old : S u v ≡ true → with S a b u v ≡ true
-      old t = go (is a b u v)
-        where
-          go : (x : Bool) → (x || S u v) ≡ true
-          go true = refl
-          go false = t
+      old t = or_right (is a b u v) (S u v) t
 
       read : Stands l' (suc m) u v → with S a b u v ≡ true
       read (e, k, p, q) =
@@ -205,22 +165,18 @@ module _ (S : Links) (l l' : List ℕ) (m r a b : ℕ) (h : Keeps S l (suc m)) (
             | no i ↦ other (suc e) (omega arith) (λ z. omega arith) (sym (source-after e (omega arith) k) ∙ p) (sym (target-after e (omega arith) k) ∙ q)
           ]
 
-      left : (x s : Bool) → (not x && s) ≡ true → (x ≡ false) × (s ≡ true)
-      left false s t = (refl, t)
-      left true s t = absurd (false≢true t)
-
       later : (e : ℕ) → e < suc m → r < e → source_at l e ≡ u → target_at l e ≡ v → Stands l' m u v
       later zero k i p q = absurd (omega arith)
       later (suc e) k i p q = (e, omega arith, source-after e (omega arith) (omega arith) ∙ p, target-after e (omega arith) (omega arith) ∙ q)
 
       put : without S a b u v ≡ true → Stands l' m u v
       put t =
-          let (f, s) = left (is a b u v) (S u v) t in
+          let (f, s) = and_parts (not (is a b u v)) (S u v) t in
           let (e, k, p, q) = (h.linked u v).1 s in
           elim (dec_lt e r) [
             | yes i ↦ (e, omega arith, source-before e i ∙ p, target-before e i ∙ q)
             | no i ↦ elim (ℕ_discrete e r) [
-              | yes z ↦ absurd (false≢true (sym f ∙ same-is a b u v (sym p ∙ ap (source_at l) z ∙ source_is) (sym q ∙ ap (target_at l) z ∙ target_is)))
+              | yes z ↦ absurd (false≢true (sym (not-true _ f) ∙ same-is a b u v (sym p ∙ ap (source_at l) z ∙ source_is) (sym q ∙ ap (target_at l) z ∙ target_is)))
               | no z ↦ later e k (omega arith) p q
             ]
           ]

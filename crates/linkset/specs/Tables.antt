@@ -76,25 +76,6 @@ most_of_source = 64
 abbrev pub is_at : List ℕ → ℕ → ℕ → ℕ → ℕ → Bool
 is_at l m r a b = ltb r m && is a b (source_at l r) (target_at l r)
 
--- l' is l with each entry moved up by a distance; the first ones stay as well
-pub record MovedUp (l l' : List ℕ) (by : ℕ) : Type 0 where
-  pub same_length : length l' ≡ length l
-  pub first : (k : ℕ) → k < by → get_or l' k 0 ≡ get_or l k 0
-  pub moved : (k : ℕ) → by ≤ k → k < length l → get_or l' k 0 ≡ get_or l (k - by) 0
-
--- and moved down; the last ones stay as well
-pub record MovedDown (l l' : List ℕ) (by : ℕ) : Type 0 where
-  pub same_length : length l' ≡ length l
-  pub moved : (k : ℕ) → k + by < length l → get_or l' k 0 ≡ get_or l (k + by) 0
-  pub last : (k : ℕ) → length l ≤ k + by → get_or l' k 0 ≡ get_or l k 0
-
--- l' is l with the links from place r on moved up by one
-pub record Opened (l l' : List ℕ) (m r : ℕ) : Type 0 where
-  pub same_length : length l' ≡ length l
-  pub front : (k : ℕ) → k < 2 * r → get_or l' k 0 ≡ get_or l k 0
-  pub moved : (k : ℕ) → 2 * r ≤ k → k < 2 * m → get_or l' (k + 2) 0 ≡ get_or l k 0
-  pub rest : (k : ℕ) → 2 * m + 2 ≤ k → get_or l' k 0 ≡ get_or l k 0
-
 -- l' is l with the link from a to b put in at place r of the first m
 pub record Inserted (l l' : List ℕ) (m r a b : ℕ) : Type 0 where
   pub same_length : length l' ≡ length l

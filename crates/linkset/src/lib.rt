@@ -4,6 +4,8 @@
 ghost use Rattle.std.specs.Prelude.{ℕ, ◌≡◌, ◌+◌, ◌*◌, ◌<◌, ◌≤◌, length};
 ghost use Rattle.graph.specs.Range.{if};
 ghost use Rattle.linkset.specs.Tables.{
+  source_at,
+  target_at,
   is_at,
   degree_of,
   most_of_source,
@@ -15,9 +17,6 @@ ghost use Rattle.linkset.specs.Tables.{
   quarter_of,
   told,
   passed,
-  MovedUp,
-  MovedDown,
-  Opened,
   Inserted,
   Removed,
 };
@@ -25,27 +24,45 @@ ghost use Rattle.linkset.specs.Tables.{
 // The most links of one source in a set of which a degree is asked for.
 const MOST_OF_SOURCE: usize = 64;
 
-// What a search compares: sources alone, or both ends.
+// What a search compares: sources alone, or both ends. They are numbers, since a const parameter can be no enum.
 const SOURCE: usize = 1;
 
 const BOTH: usize = 2;
 
-// A link as one number, by which links are compared: by source, then by target.
-fn key(source: u16, target: u16) -> u32
-    ensures { result ≡ 65536 * source + target }
-{
-    65536 * source as u32 + target as u32
+// A link, from its source to its target.
+#[derive(Clone, Copy, Debug, PartialEq, Eq)]
+pub struct Link {
+    pub source: u16,
+    pub target: u16,
 }
 
-// Whether a link of a set comes before the link from source to target; by sources alone, whether its own is less.
-fn comes_before<const ENDS: usize>(set: &[u16], link: usize, source: u16, target: u16) -> bool
-    requires { 2 * link + 1 < length set.now }
-    ensures { result ≡ earlier ENDS set.now source target link }
+// A link as one number, by which links are compared: by source, then by target. In a derived order they compare more slowly.
+fn key(link: Link) -> u32
+    ensures { result ≡ 65536 * link.source + link.target }
+{
+    65536 * u32::from(link.source) + u32::from(link.target)
+}
+
+// Link `i` of a set.
+fn link_of(set: &[u16], i: usize) -> Link
+    requires { 2 * i + 1 < length set.now }
+    ensures { result ≡ record { source = source_at set.now i; target = target_at set.now i } }
+{
+    Link {
+        source: set[2 * i],
+        target: set[2 * i + 1],
+    }
+}
+
+// Whether link `i` of a set comes before another; by sources alone, whether its own is less.
+fn comes_before<const ENDS: usize>(set: &[u16], i: usize, link: Link) -> bool
+    requires { 2 * i + 1 < length set.now }
+    ensures { result ≡ earlier ENDS set.now link.source link.target i }
 {
     if ENDS == SOURCE {
-        return set[2 * link] < source;
+        return set[2 * i] < link.source;
     }
-    key(set[2 * link], set[2 * link + 1]) < key(source, target)
+    key(link_of(set, i)) < key(link)
 }
 
 // A quarter of so many links, where a link is left out between each two.
@@ -63,7 +80,7 @@ fn told(left: usize) -> usize
     if left < 3 { 1 } else { 3 * quarter_of(left) }
 }
 
-// So many, or none. It is made without a branch: which of the two comes could not be foretold.
+// So many, or none. It is made without a branch: which of the two comes could not be foretold. A product with `usize::from` is slower.
 fn counted(holds: bool, many: usize) -> usize
     ensures { result ≡ if holds many }
 {
@@ -71,62 +88,45 @@ fn counted(holds: bool, many: usize) -> usize
 }
 
 // How many of these are told to come before it: the quarters by the three links between them, which are read side by side.
-fn passed<const ENDS: usize>(
-    set: &[u16],
-    low: usize,
-    left: usize,
-    source: u16,
-    target: u16,
-) -> usize
+fn passed<const ENDS: usize>(set: &[u16], low: usize, left: usize, link: Link) -> usize
     requires some { 0 < left }
     requires room { 2 * (low + left) ≤ length set.now }
-    ensures count { result ≡ passed (earlier ENDS set.now source target) low left }
+    ensures count { result ≡ passed (earlier ENDS set.now link.source link.target) low left }
     ensures most { result ≤ told left }
 {
     if left < 3 {
-        return counted(comes_before::<ENDS>(set, low, source, target), 1);
+        return counted(comes_before::<ENDS>(set, low, link), 1);
     }
     let quarter = quarter_of(left);
     let last = low + quarter - 1;
-    counted(comes_before::<ENDS>(set, last, source, target), quarter)
-        + counted(
-            comes_before::<ENDS>(set, last + quarter, source, target),
-            quarter,
-        )
-        + counted(
-            comes_before::<ENDS>(set, last + 2 * quarter, source, target),
-            quarter,
-        )
+    counted(comes_before::<ENDS>(set, last, link), quarter)
+        + counted(comes_before::<ENDS>(set, last + quarter, link), quarter)
+        + counted(comes_before::<ENDS>(set, last + 2 * quarter, link), quarter)
 }
 
-// How many links come before the one sought, where those below `low` do and those past `left` from there on do not.
-fn search<const ENDS: usize>(
-    set: &[u16],
-    low: usize,
-    left: usize,
-    source: u16,
-    target: u16,
-) -> usize
+// How many links come before the one sought, where those below `low` do and those past `left` from there on do not. `partition_point` takes twice
+// as long.
+fn search<const ENDS: usize>(set: &[u16], low: usize, left: usize, link: Link) -> usize
     requires room { 2 * (low + left) ≤ length set.now }
-    ensures { (m : ℕ) → Sorted set.now m → Narrowed (earlier ENDS set.now source target) m low left
-        → Parted (earlier ENDS set.now source target) m result }
+    ensures { (m : ℕ) → Sorted set.now m → Narrowed (earlier ENDS set.now link.source link.target) m low left
+        → Parted (earlier ENDS set.now link.source link.target) m result }
 {
     let mut low = low;
     let mut left = left;
     while 0 < left {
-        low += passed::<ENDS>(set, low, left, source, target);
+        low += passed::<ENDS>(set, low, left, link);
         left -= told(left);
     }
     low
 }
 
 // The place of a link in a set of `size` links: how many of them come before it.
-pub fn place(set: &[u16], size: usize, source: u16, target: u16) -> usize
+pub fn place(set: &[u16], size: usize, link: Link) -> usize
     requires room { 2 * size ≤ length set.now }
     requires sorted { Sorted set.now size }
-    ensures { Place set.now size source target result }
+    ensures { Place set.now size link.source link.target result }
 {
-    search::<BOTH>(set, 0, size, source, target)
+    search::<BOTH>(set, 0, size, link)
 }
 
 // Where the links of a source begin, by a place among them: at most three before it, or if the fourth has the source too, which is seldom,
@@ -136,12 +136,13 @@ fn begin_of(set: &[u16], place: usize, source: u16) -> usize
     ensures { (m : ℕ) → Sorted set.now m → degree_of set.now m source ≤ most_of_source → (v : ℕ) → Place set.now m source v place
         → Parted (earlier 1 set.now source 0) m result }
 {
+    let first = Link { source, target: 0 };
     if 4 <= place && set[2 * (place - 4)] == source {
         let low = place.saturating_sub(MOST_OF_SOURCE);
-        return search::<SOURCE>(set, low, place - 4 - low, source, 0);
+        return search::<SOURCE>(set, low, place - 4 - low, first);
     }
     let low = place.saturating_sub(3);
-    search::<SOURCE>(set, low, place - low, source, 0)
+    search::<SOURCE>(set, low, place - low, first)
 }
 
 // And where they end.
@@ -152,12 +153,15 @@ fn end_of(set: &[u16], size: usize, place: usize, source: u16) -> usize
     ensures { Sorted set.now size → degree_of set.now size source ≤ most_of_source → (v : ℕ) → Place set.now size source v place
         → Parted (earlier 1 set.now (source + 1) 0) size result }
 {
-    let next = source + 1;
+    let next = Link {
+        source: source + 1,
+        target: 0,
+    };
     if place + 4 <= size && set[2 * (place + 3)] == source {
         let low = place + 4;
-        return search::<SOURCE>(set, low, size.min(place + MOST_OF_SOURCE) - low, next, 0);
+        return search::<SOURCE>(set, low, size.min(place + MOST_OF_SOURCE) - low, next);
     }
-    search::<SOURCE>(set, place, size.min(place + 3) - place, next, 0)
+    search::<SOURCE>(set, place, size.min(place + 3) - place, next)
 }
 
 // How many links of a set have a source, by a place among them: on either side of it their end is sought, in few links.
@@ -174,54 +178,25 @@ pub fn degree(set: &[u16], size: usize, place: usize, source: u16) -> usize
 }
 
 // Whether a link is at a place.
-pub fn is_at(set: &[u16], size: usize, place: usize, source: u16, target: u16) -> bool
+pub fn is_at(set: &[u16], size: usize, place: usize, link: Link) -> bool
     requires { 2 * size ≤ length set.now }
-    ensures { result ≡ is_at set.now size place source target }
+    ensures { result ≡ is_at set.now size place link.source link.target }
 {
-    place < size && set[2 * place] == source && set[2 * place + 1] == target
+    place < size && link_of(set, place) == link
 }
 
-// The entries of a part moved up by a distance. The part is lent by itself, and the distance is a number: so the compiler makes one move of memory
-// of the loop.
-pub fn move_up<const BY: usize>(part: &mut [u16])
-    requires { BY ≤ length part.old }
-    ensures { MovedUp part.old part.new BY }
-{
-    let mut i = part.len() - BY;
-    while 0 < i {
-        i -= 1;
-        part[i + BY] = part[i];
-    }
-}
-
-// The entries of a part moved down by a distance.
-pub fn move_down<const BY: usize>(part: &mut [u16])
-    requires { BY ≤ length part.old }
-    ensures { MovedDown part.old part.new BY }
-{
-    for i in 0..part.len() - BY {
-        part[i] = part[i + BY];
-    }
-}
-
-// The links from a place on moved up by one.
-fn make_room(set: &mut [u16], size: usize, place: usize)
+// A link put in at a place, the later ones moved up by one. They are lent by themselves, and the distance is a number: so the compiler makes it one
+// move of memory.
+pub fn insert(set: &mut [u16], size: usize, place: usize, link: Link)
     requires place_in { place ≤ size }
     requires room { 2 * size + 2 ≤ length set.old }
-    ensures { Opened set.old set.new size place }
+    ensures { Inserted set.old set.new size place link.source link.target }
 {
-    move_up::<2>(&mut set[2 * place..2 * size + 2]);
-}
-
-// A link put in at a place, the later ones moved up by one.
-pub fn insert(set: &mut [u16], size: usize, place: usize, source: u16, target: u16)
-    requires place_in { place ≤ size }
-    requires room { 2 * size + 2 ≤ length set.old }
-    ensures { Inserted set.old set.new size place source target }
-{
-    make_room(set, size, place);
-    set[2 * place] = source;
-    set[2 * place + 1] = target;
+    let part = &mut set[2 * place..2 * size + 2];
+    let moved = part.len() - 2;
+    part.copy_within(..moved, 2);
+    part[0] = link.source;
+    part[1] = link.target;
 }
 
 // The link at a place taken out, the later ones moved down by one.
@@ -230,5 +205,6 @@ pub fn remove(set: &mut [u16], size: usize, place: usize)
     requires room { 2 * size ≤ length set.old }
     ensures { Removed set.old set.new size place }
 {
-    move_down::<2>(&mut set[2 * place..2 * size]);
+    let part = &mut set[2 * place..2 * size];
+    part.copy_within(2.., 0);
 }

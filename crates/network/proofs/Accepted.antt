@@ -3,12 +3,12 @@ use Prim.Native.Nat.{ℕ, ◌+◌, ◌<◌, ◌≤◌}
 use mathlib.Core.Bool.{Bool, true, false, not, cond, ◌||◌, false≢true, and-eq-true_iff}
 use mathlib.Core.List.{List, [], ◌∷◌}
 use mathlib.Core.Logic.Iff
-use mathlib.Core.Logic.{◌↔◌}
-use mathlib.Core.Path.{◌≡◌, refl, sym, ap, ◌∙◌}
+use mathlib.Core.Logic.{◌↔◌, ◌≢◌}
+use mathlib.Core.Path.{◌≡◌, refl, sym}
 use native.Mathlib.Decide.{dec_le}
 use native.Mathlib.Nat.{le_antisymm}
 use native.Mathlib.Omega.{arith}
-use borrow.Author.Tests.{ltb-false, leb-false, eqb-true, eqb-false, not-false, le-ltb, lt-leb, eq-eqb, ne_eqb}
+use borrow.Author.Tests.{ltb-false, leb-false, eqb-true, not-false, le-ltb, lt-leb, eq-eqb, ne_eqb}
 use lib.Dec.{eqb, leb, ltb}
 use lib.ListN.{length}
 use Rattle.graph.specs.Range.{first}
@@ -16,8 +16,11 @@ use Rattle.graph.specs.Graph.{Graph}
 use Rattle.graph.specs.Shapes.{Closed, Simple}
 use Rattle.graph.proofs.Ranges.{first-le, first_passes, first-before, first-least, first-none}
 use Rattle.graph.proofs.Ascending.{ascending-simple}
+use Rattle.std.specs.Prelude.{Option, None, Some}
+use Rattle.std.proofs.lemmas.Option.{none-some}
 use Rattle.network.specs.declared.Refusal.{Refusal}
-use Rattle.network.specs.File.{link_at, graph_of, outside, same, repeat, descent, none, at, or_else, old_refusal, file_refusal}
+use Rattle.network.specs.declared.Refusal.TheVariants.{Short, Mark, Version, Members, Links, Length, End, Repeat, Table, Member, Group, Zero, Row, Order}
+use Rattle.network.specs.File.{link_at, graph_of, outside, same, repeat, descent, number_of, number_told, or_else, old_refusal, file_refusal}
 use Rattle.network.specs.Accepted.{Distinct, Accepted, Holds}
 use Rattle.network.proofs.Descents.{descent-none}
 
@@ -51,52 +54,43 @@ first-fails : (p : ℕ → Bool) (n : ℕ) → (ltb (first p n) n ≡ false) ↔
 first-fails p n = (λ h. omega (arith, ltb-false _ n h, first-le p n), λ h. le-ltb _ n (omega arith))
 
 -- a refusal under a test is none exactly when the test fails and what comes after is none
-pub cond-none : (b : Bool) (r s : Refusal) → eqb r.number 0 ≡ false → (cond b r s ≡ none) ↔ ((b ≡ false) × (s ≡ none))
-cond-none true r s e = (λ h. absurd (eqb-false _ 0 e (ap (λ t. t.number) h)), λ (h, i). absurd (false≢true (sym h)))
-cond-none false r s e = (λ h. (refl, h), λ (h, i). i)
-
--- under a test that fails what comes after is left
-cond-past : (b : Bool) (r s : Refusal) → b ≡ false → cond b r s ≡ s
-cond-past b r s e = rw e
-
--- a refusal of number 0 is none
-pub record Proper (r : Refusal) : Type 0 where
-  pub number-none : r.number ≡ 0 → r ≡ none
-
--- none is one
-pub none-proper : Proper none
-none-proper = record { number-none = λ h. refl }
-
--- so is one of two of which each is
-pub cond_either : (b : Bool) {r s : Refusal} → Proper r → Proper s → Proper (cond b r s)
-cond_either true p q = p
-cond_either false p q = q
-
--- as a refusal of another number under a test, and what comes after
-pub cond-proper : (b : Bool) (r : Refusal) {s : Refusal} → eqb r.number 0 ≡ false → Proper s → Proper (cond b r s)
-cond-proper b r e = cond_either b (record { number-none = λ h. absurd (eqb-false _ 0 e h) })
+pub cond-none : (b : Bool) (r : Refusal) (s : Option Refusal) → (cond b (Some r) s ≡ None) ↔ ((b ≡ false) × (s ≡ None))
+cond-none true r s = (λ h. absurd (none-some r (sym h)), λ (h, i). absurd (false≢true (sym h)))
+cond-none false r s = (λ h. (refl, h), λ (h, i). i)
 
 -- two refusals, of which the second counts where the first is none, are none exactly when each is
-pub or_else-both : {r : Refusal} (s : Refusal) → Proper r → (or_else r s ≡ none) ↔ ((r ≡ none) × (s ≡ none))
-or_else-both {r} s p = (go (eqb r.number 0) refl, λ (h, i). rw h i)
-  where
-    go : (b : Bool) → eqb r.number 0 ≡ b → cond b s r ≡ none → (r ≡ none) × (s ≡ none)
-    go true e h = (p.number-none (eqb-true _ 0 e), h)
-    go false e h = absurd (eqb-false _ 0 e (ap (λ t. t.number) h))
+pub or_else-both : (r s : Option Refusal) → (or_else r s ≡ None) ↔ ((r ≡ None) × (s ≡ None))
+or_else-both None s = (λ h. (refl, h), λ (h, i). i)
+or_else-both (Some q) s = (λ h. absurd (none-some q (sym h)), λ (h, i). h)
 
--- of which the one that counts has number 0 only where it is none
-pub or_else-proper : {r s : Refusal} → Proper r → Proper s → Proper (or_else r s)
-or_else-proper {r} p q = cond_either (eqb r.number 0) q p
+-- no refusal has the number 0,
+pub number-some : (q : Refusal) → number_of q ≢ 0
+number-some Short h = omega (arith, h)
+number-some Mark h = omega (arith, h)
+number-some Version h = omega (arith, h)
+number-some Members h = omega (arith, h)
+number-some Links h = omega (arith, h)
+number-some Length h = omega (arith, h)
+number-some (End e) h = omega (arith, h)
+number-some (Repeat e) h = omega (arith, h)
+number-some Table h = omega (arith, h)
+number-some Member h = omega (arith, h)
+number-some Group h = omega (arith, h)
+number-some Zero h = omega (arith, h)
+number-some Row h = omega (arith, h)
+number-some (Order e) h = omega (arith, h)
 
--- the refusal of a file by the old rule has number 0 only where it is none
-pub old-proper : (f : List ℕ) → Proper (old_refusal f)
-unfolding old_refusal
-old-proper f = cond_either (eqb (length f) 0) none-proper (search (cond-proper, none-proper) depth 10)
+-- so that what is told by 0 is none
+pub record Proper (r : Option Refusal) : Type 0 where
+  pub number-none : number_told r ≡ 0 → r ≡ None
 
--- and so the refusal of a file
-pub file-proper : (f : List ℕ) → Proper (file_refusal f)
-unfolding file_refusal
-file-proper f = or_else-proper (old-proper f) (search (cond-proper, none-proper))
+pub proper : (r : Option Refusal) → Proper r
+proper None = record { number-none = λ h. refl }
+proper (Some q) = record { number-none = λ h. absurd (number-some q h) }
+
+-- as of two refusals the one that counts
+pub or_else-proper : {r s : Option Refusal} → Proper r → Proper s → Proper (or_else r s)
+or_else-proper {r} {s} p q = proper (or_else r s)
 
 -- no link is outside exactly when each joins two vertices of the graph
 pub outside-closed : (g : Graph) → (outside g ≡ g.size) ↔ Closed g
@@ -142,20 +136,20 @@ pub accepted-distinct : {f : List ℕ} → Accepted f → Distinct f
 accepted-distinct {f} a = record { sound = a.sound; simple = ascending-simple (graph_of f) a.ascending }
 
 -- a file is accepted by the old rule exactly when none of its numbers is given
-pub old-accepted : (f : List ℕ) → (old_refusal f ≡ none) ↔ Distinct f
+pub old-accepted : (f : List ℕ) → (old_refusal f ≡ None) ↔ Distinct f
 unfolding old_refusal
 old-accepted [] = (λ t. accepted-distinct no_bytes, λ a. refl)
 old-accepted (b ∷ r) = some (b ∷ r) (omega arith)
   where
-    some : (f : List ℕ) → 1 ≤ length f → (old_refusal f ≡ none) ↔ Distinct f
+    some : (f : List ℕ) → 1 ≤ length f → (old_refusal f ≡ None) ↔ Distinct f
     some f l =
-        simp (some_bytes f l, cond-past, cond-none, first-fails, ltb-fails, not-fails, eqb-holds) (
+        simp (some_bytes f l, cond-none, first-fails, ltb-fails, not-fails, eqb-holds) (
           λ t. search ((outside-closed (graph_of f)).0, (repeat-simple (graph_of f)).0),
           λ a. let h = a.sound.header.headed l in search ((outside-closed (graph_of f)).1 a.sound.closed, (repeat-simple (graph_of f)).1 a.simple) depth 10,
         )
 
 -- a file is accepted exactly when none of its own numbers is given
-pub accepted : (f : List ℕ) → (file_refusal f ≡ none) ↔ Accepted f
+pub accepted : (f : List ℕ) → (file_refusal f ≡ None) ↔ Accepted f
 unfolding file_refusal
 accepted f = (taken, given)
   where
@@ -163,36 +157,24 @@ accepted f = (taken, given)
     g = graph_of f
 
     -- 15 is not given exactly when no link comes before the one preceding it
-    stands : (cond (ltb (descent g) g.size) (at 15 (descent g)) none ≡ none) ↔ (descent g ≡ g.size)
-    stands = (λ h. (first-fails _ _).0 ((cond-none _ (at 15 (descent g)) none refl).0 h).0, λ h. rw ((first-fails _ _).1 h))
+    stands : (cond (ltb (descent g) g.size) (Some (Order (descent g))) None ≡ None) ↔ (descent g ≡ g.size)
+    stands = (λ h. (first-fails _ _).0 ((cond-none _ (Order (descent g)) None).0 h).0, λ h. rw ((first-fails _ _).1 h))
 
-    taken : file_refusal f ≡ none → Accepted f
+    taken : file_refusal f ≡ None → Accepted f
     taken h =
-        let (p, q) = (or_else-both _ (old-proper f)).0 h in
+        let (p, q) = (or_else-both (old_refusal f) _).0 h in
         let d = (old-accepted f).0 p in
         record { sound = d.sound; ascending = (descent-none g d.simple).0 (stands.0 q) }
 
-    given : Accepted f → file_refusal f ≡ none
+    given : Accepted f → file_refusal f ≡ None
     given a =
         let d = accepted-distinct a in
-        (or_else-both _ (old-proper f)).1 ((old-accepted f).1 d, stands.1 ((descent-none g d.simple).1 a.ascending))
+        (or_else-both (old_refusal f) _).1 ((old-accepted f).1 d, stands.1 ((descent-none g d.simple).1 a.ascending))
 
 -- where another refusal comes after the file's, there is none exactly when the file is accepted and the other is none
-pub accepted-or_else : (f : List ℕ) (s : Refusal) → (or_else (file_refusal f) s ≡ none) ↔ (Accepted f × (s ≡ none))
+pub accepted-or_else : (f : List ℕ) (s : Option Refusal) → (or_else (file_refusal f) s ≡ None) ↔ (Accepted f × (s ≡ None))
 accepted-or_else f s =
-    (λ h. let (p, q) = (or_else-both s (file-proper f)).0 h in ((accepted f).0 p, q), λ (p, q). (or_else-both s (file-proper f)).1 ((accepted f).1 p, q))
-
--- a refusal that was found to be number 0 was none,
-pub proper-none : {q r : Refusal} → Proper r → q ≡ r → q.number ≡ 0 → r ≡ none
-proper-none p e z = p.number-none (ap (λ t. t.number) (sym e) ∙ z)
-
--- as that of a file,
-pub found_none : (f : List ℕ) {r : Refusal} → r ≡ file_refusal f → r.number ≡ 0 → file_refusal f ≡ none
-found_none f = proper-none (file-proper f)
-
--- so the file is accepted
-pub found-accepted : (f : List ℕ) {r : Refusal} → r ≡ file_refusal f → r.number ≡ 0 → Accepted f
-found-accepted f e z = (accepted f).0 (found_none f e z)
+    (λ h. let (p, q) = (or_else-both (file_refusal f) s).0 h in ((accepted f).0 p, q), λ (p, q). (or_else-both (file_refusal f) s).1 ((accepted f).1 p, q))
 
 -- every edge lies within its file
 pub edge-within : (f : List ℕ) (e : ℕ) → Holds f e → (e < 65536) × (link_at (e + 1) ≤ length f)

@@ -1,46 +1,55 @@
 -- The refusals of calls: how a refused call is told, and which of two refusals is that of a call.
 use Prim.Native.Nat.{ℕ}
+use mathlib.Core.Bool.{false≢true}
 use mathlib.Core.List.{List}
-use mathlib.Core.Logic.{◌≢◌}
-use mathlib.Core.Path.{◌≡◌, refl, sym, ap, ◌∙◌}
-use borrow.Author.Tests.{ne_eqb}
+use mathlib.Core.Path.{◌≡◌, refl, sym}
+use Rattle.std.specs.Prelude.{Option, None, Some, Result, Ok, Err, IsErr, IfErr, IfOk}
+use Rattle.std.specs.Result.{result_err}
 use Rattle.network.specs.declared.Refusal.{Refusal}
-use Rattle.network.specs.File.{none, plain, or_else}
+use Rattle.network.specs.File.{or_else}
 use Rattle.network.specs.Calls.{Call, refused, accepted}
 
--- a refusal of a number that is not 0 is one
-pub refusal-some : {r : Refusal} → r.number ≢ 0 → r ≢ none
-refusal-some n e = n (ap (λ t. t.number) e)
-
--- a call that answers a refusal, and has left its tables, is refused by it
-pub call_kept : {Answer Value : Type 0} {refusal q : Refusal} {tells : Refusal → Answer} {answers : Value → Answer} {before after : List (List ℕ)} {done : Value → Type 0}
-    → q ≡ refusal → q.number ≢ 0 → after ≡ before → Call refusal tells answers before after done (tells q)
-call_kept {tells = tells} e n k = refused (rw e at n) (ap tells e) k
+-- a call that answers the refusal, and has left its tables, is refused by it
+pub call_kept : {Value : Type 0} {refusal : Option Refusal} {q : Refusal} {before after : List (List ℕ)} {done : Value → Type 0} → refusal ≡ Some q → after ≡ before
+    → Call refusal before after done (Err q)
+call_kept e k = refused _ e refl k
 
 -- most often because it never had them in hand
-pub call-refused : {Answer Value : Type 0} {refusal q : Refusal} {tells : Refusal → Answer} {answers : Value → Answer} {before : List (List ℕ)} {done : Value → Type 0}
-    → q ≡ refusal → q.number ≢ 0 → Call refusal tells answers before before done (tells q)
-call-refused e n = call_kept e n refl
+pub call-refused : {Value : Type 0} {refusal : Option Refusal} {q : Refusal} {before : List (List ℕ)} {done : Value → Type 0} → refusal ≡ Some q → Call refusal before before done (Err q)
+call-refused e = call_kept e refl
 
--- by a number alone
-pub call-plain : {Answer Value : Type 0} {refusal q : Refusal} {tells : Refusal → Answer} {answers : Value → Answer} {before : List (List ℕ)} {done : Value → Type 0}
-    (k : ℕ) → k ≢ 0 → q ≡ plain k → plain k ≡ refusal → Call refusal tells answers before before done (tells q)
-call-plain k n e i = call-refused (e ∙ i) (rw e n)
+-- as where a test is not passed, and what it tells is handed on
+pub call-told : {Value : Type 0} {refusal : Option Refusal} {before : List (List ℕ)} {done : Value → Type 0} (answer : Result Value Refusal) → IsErr answer
+    → IfErr answer (λ q. refusal ≡ Some q) → Call refusal before before done answer
+call-told (Ok v) e h = absurd (false≢true e)
+call-told (Err q) e h = call-refused h
+
+-- as where another call was refused, has left the tables, and its answer is handed on
+pub call-handed : {Value : Type 0} {refusal : Option Refusal} {q : Refusal} {before after : List (List ℕ)} {done : Value → Type 0} (answer : Result Value Refusal) → IsErr answer
+    → IfErr answer (λ p. p ≡ q) → refusal ≡ Some q → after ≡ before → Call refusal before after done answer
+call-handed (Ok v) e h i k = absurd (false≢true e)
+call-handed (Err p) e h i k = rw h (call_kept i k)
 
 -- a call that has done one thing where it is accepted has done what follows from that
-pub call-done : {Answer Value : Type 0} {refusal refusal' : Refusal} {tells : Refusal → Answer} {answers : Value → Answer} {before after : List (List ℕ)}
-    {done done' : Value → Type 0} {answer : Answer} → refusal ≡ refusal' → ((v : Value) → refusal ≡ none → done v → done' v)
-    → Call refusal tells answers before after done answer → Call refusal' tells answers before after done' answer
-call-done e h c = rw (← e) (elim c [ refused n i k ↦ refused n i k | accepted v n i d ↦ accepted v n i (h v n d) ])
+pub call-done : {Value : Type 0} {refusal refusal' : Option Refusal} {before after : List (List ℕ)} {done done' : Value → Type 0} {answer : Result Value Refusal} → refusal ≡ refusal'
+    → ((v : Value) → refusal ≡ None → done v → done' v) → Call refusal before after done answer → Call refusal' before after done' answer
+call-done e h c = rw (← e) (elim c [ refused q n i k ↦ refused q n i k | accepted v n i d ↦ accepted v n i (h v n d) ])
 
--- an earlier refusal is that of the call
-pub or_else-first : {r : Refusal} (s : Refusal) → r.number ≢ 0 → or_else r s ≡ r
-or_else-first {r} s n = rw (ne_eqb r.number 0 n)
-
--- so what was found to be one
-pub or_else-found : {r q : Refusal} (s : Refusal) → q ≡ r → q.number ≢ 0 → q ≡ or_else r s
-or_else-found s e n = e ∙ sym (or_else-first s (rw e at n))
+-- an earlier refusal is that of the call,
+pub or_else-first : {r : Option Refusal} (s : Option Refusal) {q : Refusal} → r ≡ Some q → or_else r s ≡ Some q
+or_else-first s e = rw e
 
 -- and where there is none the later one is
-pub or_else-second : {r : Refusal} (s : Refusal) → r ≡ none → or_else r s ≡ s
+pub or_else-second : {r : Option Refusal} (s : Option Refusal) → r ≡ None → or_else r s ≡ s
 or_else-second s e = rw e
+
+-- what is told of an earlier refusal is told of that of the call
+pub or_else-told : {Value : Type 0} (r s : Option Refusal) (answer : Result Value Refusal) → IfErr answer (λ q. r ≡ Some q) → IfErr answer (λ q. or_else r s ≡ Some q)
+or_else-told r s (Ok v) h = h
+or_else-told r s (Err q) h = or_else-first s h
+
+-- of a test that tells each refusal and passes no other input the error is the refusal, where there is one
+pub err-told : {Value : Type 0} {r : Option Refusal} {done : Value → Type 0} (answer : Result Value Refusal) → IfErr answer (λ q. r ≡ Some q) → IfOk answer done → ((v : Value) → done v → r ≡ None)
+    → result_err answer ≡ r
+err-told (Ok v) h k n = sym (n v k)
+err-told (Err q) h k n = sym h

@@ -5,8 +5,9 @@ use mathlib.Core.Path.{◌≡◌, refl}
 use Rattle.graph.specs.Range.{sum, first, flat}
 use Rattle.graph.specs.Graph.{reverse}
 use Rattle.graph.specs.Order.{rank_by, nth_by, starts, rows}
+use Rattle.std.specs.Prelude.{Option}
 use Rattle.network.specs.declared.Refusal.{Refusal}
-use Rattle.network.specs.File.{graph_of, none, plain, at, old_refusal, file_refusal}
+use Rattle.network.specs.File.{graph_of, number_told, link_told, old_refusal, file_refusal}
 use Rattle.network.specs.Refusals.{index_refusal, row_refusal, count_refusal, core_refusal, level_refusal, equal_level_refusal, layers_refusal, harmonic_refusal, out_refusal, write_refusal, order_refusal}
 use Rattle.network.specs.Bytes.{written}
 
@@ -31,10 +32,24 @@ mixed_w = small 6 8 (links ((5, 5) ∷ (2, 4) ∷ (0, 4) ∷ (1, 3) ∷ (4, 5) �
 abbrev pub two_descents : List ℕ
 two_descents = small 3 5 (links ((0, 1) ∷ (0, 2) ∷ (0, 0) ∷ (2, 0) ∷ (1, 2) ∷ []))
 
+-- 01's two numbers of a refusal
+abbrev pub numbers : Option Refusal → ℕ × ℕ
+numbers r = (number_told r, link_told r)
+
+-- those of none, of one by its number alone, and of one that names a link
+abbrev pub none : ℕ × ℕ
+none = (0, 0)
+
+abbrev pub plain : ℕ → ℕ × ℕ
+plain k = (k, 0)
+
+abbrev pub at : ℕ → ℕ → ℕ × ℕ
+at k e = (k, e)
+
 -- a file and what is given for it
 pub record Case : Type 0 where
   pub file : List ℕ
-  pub refusal : Refusal
+  pub refusal : ℕ × ℕ
 
 -- a file for each number, with every later fault that it can have too, and accepted ones; 2,049 is 1 + 256 × 8 and 8,193 is 1 + 256 × 32
 abbrev pub cases : List Case
@@ -62,12 +77,12 @@ cases =
     ∷ []
 
 -- each has its refusal
-pub case-refusals : map (λ c. file_refusal c.file) cases ≡ map (λ c. c.refusal) cases
+pub case-refusals : map (λ c. numbers (file_refusal c.file)) cases ≡ map (λ c. c.refusal) cases
 unfolding file_refusal old_refusal first
 case-refusals = refl
 
 -- by the old rule links may stand in any order, and none may repeat another
-pub old-refusals : map old_refusal (two_descents ∷ mixed_w ∷ small 2 2 (links ((1, 0) ∷ (1, 0) ∷ [])) ∷ []) ≡ none ∷ none ∷ at 8 1 ∷ []
+pub old-refusals : map (λ f. numbers (old_refusal f)) (two_descents ∷ mixed_w ∷ small 2 2 (links ((1, 0) ∷ (1, 0) ∷ [])) ∷ []) ≡ none ∷ none ∷ at 8 1 ∷ []
 unfolding old_refusal first
 old-refusals = refl
 
@@ -103,8 +118,8 @@ six = 1 ∷ five
 
 -- what is given for a call, and what is to be given
 pub record Call : Type 0 where
-  pub given : Refusal
-  pub expected : Refusal
+  pub given : Option Refusal
+  pub expected : ℕ × ℕ
 
 -- a call with the file's own fault first, then with two that compete, then with each part of a fault alone, and an accepted one; last, calls on
 -- zero bytes
@@ -188,6 +203,6 @@ calls =
     ∷ []
 
 -- each gives what it is to
-pub call-refusals : map (λ c. c.given) calls ≡ map (λ c. c.expected) calls
+pub call-refusals : map (λ c. numbers c.given) calls ≡ map (λ c. c.expected) calls
 unfolding first old_refusal file_refusal index_refusal row_refusal count_refusal core_refusal level_refusal equal_level_refusal layers_refusal harmonic_refusal out_refusal
 call-refusals = refl

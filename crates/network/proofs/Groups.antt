@@ -7,6 +7,7 @@ use native.Mathlib.Decide.{dec_le}
 use native.Mathlib.Omega.{arith}
 use borrow.Author.Tests.{lt-ltb, le-ltb, eq-eqb, eqb-true}
 use lib.Dec.{eqb, ltb}
+use mir.Val.{bool_byte}
 use lib.ListN.{length, get_or, drop, length-append}
 use Rattle.graph.specs.Range.{if}
 use Rattle.graph.specs.Graph.{Graph, Group, everyone}
@@ -14,6 +15,11 @@ use Rattle.graph.specs.Shapes.{Same}
 use Rattle.graph.proofs.Ranges.{length-table, get_or-table, first_some, first-none}
 use Rattle.network.specs.declared.Totals.{Totals}
 use Rattle.network.specs.Groups.{group_of, is_group, AllIn, Among, bytes_of, GroupIn}
+
+-- a test made a number counts 1 where it holds
+pub number-of_test : (b : Bool) → bool_byte b ≡ if b 1
+number-of_test true = refl
+number-of_test false = refl
 
 -- a byte of a group is at most 1: where the first that is greater is past the last, none is
 pub group-byte : (n : ℕ) (s : List ℕ) → is_group n s ≡ true → (k : ℕ) → k < n → get_or s k 0 ≤ 1

@@ -9,18 +9,14 @@ fn put(out: &mut [u8], at: usize, number: usize)
     requires { (at + 2 ≤ length out.old) × (number < 65536) }
     ensures { out.new ≡ sets out.old at (u16 number) }
 {
-    out[at] = (number % 256) as u8;
-    out[at + 1] = (number / 256 % 256) as u8;
+    out[at..at + 2].copy_from_slice(&(number as u16).to_le_bytes());
 }
 
 fn put_mark(out: &mut [u8])
     requires { 3 ≤ length out.old }
     ensures { out.new ≡ sets out.old 0 mark }
 {
-    let mark = b"VCH";
-    out[0] = mark[0];
-    out[1] = mark[1];
-    out[2] = mark[2];
+    out[0..3].copy_from_slice(b"VCH");
 }
 
 // Mark, version, n and m.

@@ -7,24 +7,12 @@ ghost use Rattle.network.specs.Sides.{seen};
 
 use crate::Side;
 
-pub fn wide(x: u8) -> usize
-    ensures { (result ≡ x) × (result < 256) }
-{
-    x as usize
-}
-
-pub fn wide16(x: u16) -> usize
-    ensures { (result ≡ x) × (result < 65536) }
-{
-    x as usize
-}
-
 // The number of 16 bits at a byte, low byte first.
 pub fn u16_at(file: &[u8], at: usize) -> usize
     requires { at + 1 < length file.now }
     ensures { (result ≡ u16_at file.now at) × (result < 65536) }
 {
-    wide(file[at]) + 256 * wide(file[at + 1])
+    usize::from(u16::from_le_bytes([file[at], file[at + 1]]))
 }
 
 // Whether a file begins with a mark of three bytes.
@@ -32,31 +20,36 @@ pub fn is_marked(file: &[u8], mark: &[u8]) -> bool
     requires { (3 ≤ length file.now) × (3 ≤ length mark.now) }
     ensures { result ≡ marked mark.now file.now }
 {
-    file[0] == mark[0] && file[1] == mark[1] && file[2] == mark[2]
+    file[0..3] == mark[0..3]
 }
 
 // A byte of the file, or 0 past its end.
-fn byte_at(file: &[u8], at: usize) -> usize
-    ensures { (result ≡ get_or file.now at 0) × (result < 256) }
+fn byte_at(file: &[u8], at: usize) -> u8
+    ensures { result ≡ get_or file.now at 0 }
 {
-    if file.len() <= at {
-        return 0;
-    }
-    wide(file[at])
+    file.get(at).copied().unwrap_or(0)
+}
+
+// The number of 16 bits at a byte, where the bytes past the end count as 0.
+fn number_at(file: &[u8], at: usize) -> usize
+    requires { at < 65536 }
+    ensures { (result ≡ u16_at file.now at) × (result < 65536) }
+{
+    usize::from(u16::from_le_bytes([byte_at(file, at), byte_at(file, at + 1)]))
 }
 
 // 01: n. Zero bytes count as the file without vertices and edges (02, wish 3), so nothing past the end is read.
 pub fn order_of(file: &[u8]) -> usize
     ensures { (result ≡ (graph_of file.now).order) × (result < 65536) }
 {
-    byte_at(file, 5) + 256 * byte_at(file, 6)
+    number_at(file, 5)
 }
 
 // 01: m, in the same way.
 pub fn size_of(file: &[u8]) -> usize
     ensures { (result ≡ (graph_of file.now).size) × (result < 65536) }
 {
-    byte_at(file, 7) + 256 * byte_at(file, 8)
+    number_at(file, 7)
 }
 
 // Where an edge starts in the file; past the last one it is the file's length.

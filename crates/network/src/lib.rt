@@ -12,35 +12,54 @@ pub const MOST_LINKS: usize = 8192;
 
 pub const MOST_WORK: usize = 2 * MOST_LINKS + 6 * MOST_MEMBERS + 2;
 
-// A refusal's number, and the number of the edge for the refusals that name one (else 0). No refusal is number 0.
-#[derive(Clone, Copy)]
-pub struct Refusal {
-    pub number: u16,
-    pub link: u16,
+// 01, 02: why a call is refused, in the order of the numbers. Three of them name a link, the first that is so. No number is 13.
+#[derive(Clone, Copy, Debug, PartialEq, Eq)]
+pub enum Refusal {
+    // of a file's own bytes: too few for a header, another mark or version, too many members or links, another length
+    Short,
+    Mark,
+    Version,
+    Members,
+    Links,
+    Length,
+    // a link names a member not below n, or repeats an earlier one
+    End { link: u16 },
+    Repeat { link: u16 },
+    // a lent table is too short
+    Table,
+    // the member of a row is not below n
+    Member,
+    // a byte of a group is neither 0 nor 1
+    Group,
+    // a level was asked for 0
+    Zero,
+    // a row does not lie in its table
+    Row,
+    // a link comes before the one preceding it
+    Order { link: u16 },
+}
+
+// n and m.
+#[derive(Clone, Copy, Debug, PartialEq, Eq)]
+pub struct Extent {
+    pub order: usize,
+    pub size: usize,
 }
 
 // 01: E, |S| and |T|.
-#[derive(Clone, Copy)]
+#[derive(Clone, Copy, Debug, PartialEq, Eq)]
 pub struct Totals {
     pub edges: u32,
     pub sources: usize,
     pub targets: usize,
 }
 
-// What the count, the core and the harmonic finder answer: E, |S| and |T|, or the refusal.
-#[derive(Clone, Copy)]
-pub enum TotalsAnswer {
-    Counted(Totals),
-    Refused(Refusal),
-}
-
 // A side of an edge. 01: the voucher is the source, the vouched member the target.
-#[derive(Clone, Copy)]
+#[derive(Clone, Copy, Debug, PartialEq, Eq)]
 pub enum Side {
     Source,
     Target,
 }
 
 pub use bytes::{put_edge, put_header};
-pub use files::{end_at, is_marked, link_at, order_of, size_of, u16_at, wide, wide16, work_length};
-pub use refusals::names_link;
+pub use files::{end_at, is_marked, link_at, order_of, size_of, u16_at, work_length};

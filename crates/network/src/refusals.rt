@@ -1,38 +1,42 @@
-// The values of a refusal.
-ghost use Rattle.std.specs.Prelude.{◌≡◌, ◌<◌};
+// What is told of a refusal.
+ghost use Rattle.std.specs.Prelude.{◌≡◌, ◌<◌, IfSome};
 ghost use Rattle.network.specs.File as file;
 
 use crate::Refusal;
 
 impl Refusal {
-    pub fn none() -> Refusal
-        ensures { result ≡ file.none }
+    // 01, 02: its number.
+    pub fn number(self) -> u16
+        ensures { result ≡ file.number_of self }
     {
-        Refusal { number: 0, link: 0 }
-    }
-
-    // A refusal by its number alone.
-    pub fn plain(number: u16) -> Refusal
-        ensures { result ≡ file.plain number }
-    {
-        Refusal { number, link: 0 }
-    }
-
-    // A refusal that names an edge.
-    pub fn at(number: u16, edge: usize) -> Refusal
-        requires { edge < 65536 }
-        ensures { result ≡ file.at number edge }
-    {
-        Refusal {
-            number,
-            link: edge as u16,
+        match self {
+            Refusal::Short => 1,
+            Refusal::Mark => 2,
+            Refusal::Version => 3,
+            Refusal::Members => 4,
+            Refusal::Links => 5,
+            Refusal::Length => 6,
+            Refusal::End { .. } => 7,
+            Refusal::Repeat { .. } => 8,
+            Refusal::Table => 9,
+            Refusal::Member => 10,
+            Refusal::Group => 11,
+            Refusal::Zero => 12,
+            Refusal::Row => 14,
+            Refusal::Order { .. } => 15,
         }
     }
-}
 
-// 01, 02: whether a link's number is returned with this number.
-pub fn names_link(number: u16) -> bool
-    ensures { result ≡ file.names_link number }
-{
-    number == 7 || number == 8 || number == 15
+    // 01, 02: the link that it names.
+    pub fn link(self) -> Option<u16>
+        ensures value { result ≡ file.link_of self }
+        ensures fits { IfSome result (λ e. e < 65536) }
+    {
+        match self {
+            Refusal::End { link } | Refusal::Repeat { link } | Refusal::Order { link } => Some(
+                link,
+            ),
+            _ => None,
+        }
+    }
 }

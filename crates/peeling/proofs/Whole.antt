@@ -4,7 +4,6 @@ use Prim.Native.Nat.{ℕ, ◌+◌, ◌-◌, ◌*◌, ◌<◌}
 use mathlib.Core.Bool.{true, false, Bool, cond}
 use mathlib.Core.List.{List}
 use mathlib.Core.Path.{◌≡◌, refl, sym, ◌∙◌}
-use native.Mathlib.Nat.{ne_of_lt}
 use native.Mathlib.Omega.{arith}
 use borrow.Author.Tests.{le-leb}
 use lib.Dec.{eqb, ltb}
@@ -13,13 +12,12 @@ use Rattle.graph.specs.Linkage.{degree}
 use Rattle.graph.specs.Graph.{Graph, edges}
 use Rattle.graph.specs.Places.{targets}
 use Rattle.graph.specs.Cover.{need}
-use Rattle.graph.proofs.Sums.{sum-ext, sum-swap, sum-pick, sum_ones, below_suc}
+use Rattle.graph.proofs.Sums.{sum-ext, sum-swap, sum-pick, sum_ones}
 use Rattle.graph.proofs.Monotone.{sum-steps}
 use Rattle.graph.proofs.Linkage.{surrounds-all}
 use Rattle.graph.proofs.Cover.{edges-places}
-use Rattle.peeling.specs.Peeling.{start_of, row_length, row_entry, degree_of, queue_of, entries, between, live, Rows, Tabled, Held, Peeling, Kept, with_degree}
-use Rattle.peeling.proofs.Tables.{with-degree-same, with-degree-other}
-use Rattle.peeling.proofs.Kept.{kept_next, kept_set, start-kept, rows-kept}
+use Rattle.peeling.specs.Peeling.{start_of, row_length, row_entry, degree_of, queue_of, entries, between, live, Rows, Tabled, Held, Peeling, Kept}
+use Rattle.peeling.proofs.Kept.{start-kept, rows-kept}
 use Rattle.peeling.proofs.Totals.{tabled-rows, held_rows, held_kept, place-degree}
 
 -- the edges of a place to all places are the entries of its row
@@ -30,24 +28,6 @@ row-degree {n} {m} {w} r queue p l =
     sum-swap (λ q i. if (eqb (row_entry n w (start_of w p + i)) q) 1) (row_length w p) (2 * n)
     ∙ sum-ext (row_length w p) (λ i b. sum-pick (λ q. 1) (2 * n) (row_entry n w (start_of w p + i)) (r.inside p i l b))
     ∙ sum_ones _
-
--- the degrees of whole rows, filled in for the places before i
-pub record Filled (n m : ℕ) (w₀ w : List ℕ) (i : ℕ) : Type 0 where
-  pub kept : Kept n m w₀ w
-  pub degrees : (p : ℕ) → p < i → degree_of n m w p ≡ row_length w₀ p
-
--- and for one place more
-pub filled_next : {n m : ℕ} {w₀ w w' : List ℕ} (i : ℕ) → Rows n m w₀ → Filled n m w₀ w i → i < 2 * n
-    → w' ≡ with_degree n m w i (row_length w i) → Filled n m w₀ w' (i + 1)
-filled_next {n} {m} {w₀} {w} {w'} i r f l e =
-    rw e
-    record {
-      kept = kept_next f.kept (kept_set n m w (2 * n + 1 + 2 * m + i) _ (omega arith) (omega arith));
-      degrees = λ p b.
-          below_suc {i = p} {n = i} (omega arith)
-          (λ q. rw q (with-degree-same n m w i _ (omega (arith, r.long, f.kept.same_length)) ∙ rw (start-kept r f.kept i (omega arith), start-kept r f.kept (i + 1) (omega arith))))
-          (λ c. with-degree-other n m w i _ p (ne_of_lt c) ∙ f.degrees p c);
-    }
 
 -- where x and y are 0 no place needs an edge
 none_needed : (n p : ℕ) → need n 0 0 p ≡ 0

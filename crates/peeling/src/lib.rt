@@ -5,7 +5,7 @@ mod peels;
 
 // How far a peel has come: head and tail of the queue of places that are short, how many places of each side are not in it, and the running
 // total: the edges between the places that are not dropped yet.
-#[derive(Clone, Copy)]
+#[derive(Clone, Copy, PartialEq, Eq, Debug)]
 pub struct Peel {
     pub head: usize,
     pub tail: usize,
@@ -15,7 +15,7 @@ pub struct Peel {
 }
 
 // What a peel goes by: the numbers of vertices and edges, and how many edges a source and a target need.
-#[derive(Clone, Copy)]
+#[derive(Clone, Copy, PartialEq, Eq, Debug)]
 pub struct Scope {
     pub order: usize,
     pub size: usize,
@@ -23,4 +23,4 @@ pub struct Scope {
     pub y: usize,
 }
 
-pub use peels::{degrees_at, need, put};
+pub use peels::put;

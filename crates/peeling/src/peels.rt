@@ -7,44 +7,50 @@ ghost use Rattle.network.specs.Refusals.{work_length};
 ghost use Rattle.peeling.specs.Peeling.{Small, Rows, Held, Peeling, Dropping, Kept, Ended, Pushable, row_length, degree_of, queue_of, need_of, need_across, emptied, pushed, past, with_degree, with_queued, lowered_peel, lowered_table};
 
 use crate::{Peel, Scope};
-use network::wide16;
+use network::Extent;
 
-// The edges that a place needs.
-pub fn need(scope: Scope, place: usize) -> usize
-    ensures { result ≡ need_of scope place }
-{
-    if place < scope.order {
-        scope.x
-    } else {
-        scope.y
+impl Scope {
+    // Of a graph of so many vertices and edges, with these needs.
+    pub fn of(extent: Extent, x: usize, y: usize) -> Scope
+        ensures { result ≡ record { order = extent.order; size = extent.size; x = x; y = y } }
+    {
+        Scope {
+            order: extent.order,
+            size: extent.size,
+            x,
+            y,
+        }
     }
-}
 
-// The edges that the places need to which a place is joined: they are of the other side.
-fn need_across(scope: Scope, place: usize) -> usize
-    ensures { result ≡ need_across scope place }
-{
-    if scope.order <= place {
-        scope.x
-    } else {
-        scope.y
+    // The edges that a place needs.
+    pub fn need(self, place: usize) -> usize
+        ensures { result ≡ need_of self place }
+    {
+        if place < self.order { self.x } else { self.y }
     }
-}
 
-// Where the degrees start in the work table.
-pub fn degrees_at(scope: Scope) -> usize
-    requires { Small scope.order scope.size }
-    ensures { result ≡ 2 * scope.order + 1 + 2 * scope.size }
-{
-    2 * scope.order + 1 + 2 * scope.size
-}
+    // The edges that the places need to which a place is joined: they are of the other side, and so the two are exchanged.
+    fn need_across(self, place: usize) -> usize
+        ensures { result ≡ need_across self place }
+    {
+        if place < self.order { self.y } else { self.x }
+    }
 
-// Where the queue starts.
-fn queue_at(scope: Scope) -> usize
-    requires { Small scope.order scope.size }
-    ensures { result ≡ 4 * scope.order + 1 + 2 * scope.size }
-{
-    4 * scope.order + 1 + 2 * scope.size
+    // Where the degrees start in the work table.
+    pub fn degrees_at(self) -> usize
+        requires { Small self.order self.size }
+        ensures { result ≡ 2 * self.order + 1 + 2 * self.size }
+    {
+        2 * self.order + 1 + 2 * self.size
+    }
+
+    // Where the queue starts.
+    fn queue_at(self) -> usize
+        requires { Small self.order self.size }
+        ensures { result ≡ 4 * self.order + 1 + 2 * self.size }
+    {
+        4 * self.order + 1 + 2 * self.size
+    }
 }
 
 // The place put at entry `tail` of the queue. The table has one entry more than there are places, so there is one past every tail.
@@ -55,30 +61,20 @@ pub fn put(work: &mut [u16], scope: Scope, tail: usize, place: usize)
     requires is_place { place < 2 * scope.order }
     ensures { work.new ≡ with_queued scope.order scope.size work.old tail place }
 {
-    let at = queue_at(scope) + tail;
+    let at = scope.queue_at() + tail;
     work[at] = place as u16;
 }
 
-// The degree of a place in the whole graph: the length of its row.
-fn fill_degree(work: &mut [u16], scope: Scope, place: usize)
-    requires small { Small scope.order scope.size }
-    requires rows { Rows scope.order scope.size work.old }
-    requires is_place { place < 2 * scope.order }
-    ensures { work.new ≡ with_degree scope.order scope.size work.old place (row_length work.old place) }
-{
-    let at = degrees_at(scope) + place;
-    work[at] = work[place + 1] - work[place];
-}
-
-// The degrees of all places in the whole graph.
+// The degrees of all places in the whole graph: the lengths of their rows.
 fn fill_degrees(work: &mut [u16], scope: Scope)
     requires small { Small scope.order scope.size }
     requires rows { Rows scope.order scope.size work.old }
     ensures kept { Kept scope.order scope.size work.old work.new }
     ensures degrees { (p : ℕ) → p < 2 * scope.order → degree_of scope.order scope.size work.new p ≡ row_length work.old p }
 {
-    for place in 0..2 * scope.order {
-        fill_degree(work, scope, place);
+    let (starts, rest) = work.split_at_mut(scope.degrees_at());
+    for (place, degree) in rest[..2 * scope.order].iter_mut().enumerate() {
+        *degree = starts[place + 1] - starts[place];
     }
 }
 
@@ -93,7 +89,7 @@ impl Peel {
     {
         fill_degrees(work, scope);
         let n = scope.order;
-        let edges = wide16(work[n] - work[0]);
+        let edges = usize::from(work[n] - work[0]);
         Peel {
             head: 0,
             tail: 0,
@@ -150,10 +146,10 @@ impl Peel {
         ensures peel { result ≡ lowered_peel scope.order scope.size (need_of scope) work.old self place }
         ensures table { work.new ≡ lowered_table scope.order scope.size (need_of scope) work.old self place }
     {
-        let at = degrees_at(scope) + place;
+        let at = scope.degrees_at() + place;
         let degree = work[at];
         work[at] = degree - 1;
-        if wide16(degree) == least {
+        if usize::from(degree) == least {
             self.push(work, scope, place)
         } else {
             self
@@ -161,6 +157,7 @@ impl Peel {
     }
 
     // Each place of the row of the place that the head has passed loses an edge. For an empty row, of which there are many, nothing is looked up.
+    // The row stands in the table that is written to, so its entries are read by their index.
     fn lower_row(self, work: &mut [u16], scope: Scope, place: usize) -> Peel
         requires small { Small scope.order scope.size }
         requires dropping { Dropping scope.order scope.size (need_of scope) work.old self place 0 }
@@ -169,17 +166,16 @@ impl Peel {
         ensures kept { Kept scope.order scope.size work.old work.new }
     {
         let rows = 2 * scope.order + 1;
-        let end = rows + wide16(work[place + 1]);
-        let mut k = rows + wide16(work[place]);
-        if end <= k {
+        let start = rows + usize::from(work[place]);
+        let end = rows + usize::from(work[place + 1]);
+        if end <= start {
             return self;
         }
-        let least = need_across(scope, place);
+        let least = scope.need_across(place);
         let mut peel = self;
-        while k < end {
-            let other = wide16(work[k]);
+        for k in start..end {
+            let other = usize::from(work[k]);
             peel = peel.lower(work, scope, least, other);
-            k += 1;
         }
         peel
     }
@@ -194,9 +190,9 @@ impl Peel {
         requires in_total { degree_of scope.order scope.size work.now (queue_of scope.order scope.size work.now self.head) ≤ self.edges }
         ensures { result ≡ past scope.order scope.size work.now self }
     {
-        let at = queue_at(scope) + self.head;
-        let place = wide16(work[at]);
-        let degree = wide16(work[degrees_at(scope) + place]);
+        let at = scope.queue_at() + self.head;
+        let place = usize::from(work[at]);
+        let degree = usize::from(work[scope.degrees_at() + place]);
         Peel {
             head: self.head + 1,
             edges: self.edges - degree,
@@ -213,8 +209,8 @@ impl Peel {
         ensures head { result.head ≡ self.head + 1 }
         ensures kept { Kept scope.order scope.size work.old work.new }
     {
-        let first = queue_at(scope) + self.head;
-        let place = wide16(work[first]);
+        let first = scope.queue_at() + self.head;
+        let place = usize::from(work[first]);
         self.pass_first(work, scope).lower_row(work, scope, place)
     }
 
@@ -250,9 +246,6 @@ impl Peel {
     pub fn is_empty(self) -> bool
         ensures { result ≡ emptied self }
     {
-        if self.sources == 0 {
-            return true;
-        }
-        self.targets == 0
+        self.sources == 0 || self.targets == 0
     }
 }

@@ -1,13 +1,13 @@
 -- The matches that are played again in a table, from the leaf of place p up to the root. The invariant: node k is reached, and the nodes above it
 -- wait; only entries of nodes differ from the table w₀ that the store of the key left; and the rank carried is that of the place that node k
 -- holds. The smaller of it and the rank at the sibling is that of the node above. At the root none waits, and the table holds a tree.
-use Prim.Native.Nat.{ℕ, ◌+◌, ◌*◌, ◌/◌, ◌%◌, ◌<◌, ◌≤◌}
+use Prim.Native.Nat.{ℕ, ◌+◌, ◌*◌, ◌/◌, ◌%◌, ◌<◌, ◌≤◌, min}
 use mathlib.Core.List.{List}
 use mathlib.Core.Path.{◌≡◌, sym, ap, ◌∙◌}
 use native.Mathlib.Omega.{arith}
 use lib.ListN.{set, length-set}
 use lib.Seq.{get_or-set_same}
-use Rattle.picking.specs.Winners.{key_of, node_of, won_of, rank, rank_of, lesser, sibling_of, Tree, Beside, Room}
+use Rattle.picking.specs.Winners.{key_of, node_of, won_of, rank, rank_of, sibling_of, Tree, Beside, Room}
 use Rattle.picking.proofs.Matches.{Pending, pending_next, pending-end, Plays, winner-inside}
 use Rattle.picking.proofs.Ranks.{above-rank, rank-place}
 use Rattle.picking.proofs.Replays.{pending-begin, stored-tree, stored-others}
@@ -33,11 +33,11 @@ climbs-begin {at} {n} {w} p v l r t =
       ranked = rw (node-place (set w (at + p) v) at n p l, get_or-set_same w (at + p) v 0 (omega (arith, r.room)));
     }
 
-module _ {at n k r s : ℕ} {w₀ w : List ℕ} (c : Climbs at n w₀ w k r) (a : 1 < k) (q : s ≡ lesser r (rank_of w at n (sibling_of k))) where
+module _ {at n k r s : ℕ} {w₀ w : List ℕ} (c : Climbs at n w₀ w k r) (a : 1 < k) (q : s ≡ min r (rank_of w at n (sibling_of k))) where
   -- the smaller rank is that of the winner above,
   climbs-rank : s ≡ rank (key_of w at) (won_of w at n (k / 2))
   climbs-rank =
-      q ∙ ap (λ t. lesser t (rank_of w at n (sibling_of k))) c.ranked
+      q ∙ ap (λ t. min t (rank_of w at n (sibling_of k))) c.ranked
       ∙ sym (above-rank (key_of w at) (node_of w at n) c.room.most k (c.pending.place k (omega arith) c.inside) (c.pending.place (sibling_of k) (omega arith) (omega (arith, c.inside))))
 
   -- which is a place

@@ -5,6 +5,7 @@ use mathlib.Core.Path.{◌≡◌, refl, sym, ap, ◌∙◌}
 use native.Mathlib.Decide.{ℕ_discrete, dec_le, dec_lt}
 use native.Mathlib.Omega.{arith}
 use borrow.Author.Tests.{lt-ltb, le-ltb, eq-eqb, ne_eqb}
+use Rattle.std.proofs.lemmas.Bool.Decides.{nat_tests}
 use Rattle.graph.specs.Graph.{everyone}
 use Rattle.graph.specs.Drops.{Least}
 use Rattle.graph.proofs.Unbeaten.{least_by}
@@ -209,8 +210,4 @@ pending-end m =
 
 -- only the nodes themselves count
 pub matched-same : {key node : ℕ → ℕ} (node' : ℕ → ℕ) {n c : ℕ} → ((k : ℕ) → k < 2 * n → node' k ≡ node k) → Matched key node n c → Matched key node' n c
-matched-same node' e m =
-    record {
-      place = λ k l h. rw (e k h) (m.place k l h);
-      played = λ k l h. e k (omega arith) ∙ m.played k l h ∙ rw (e (2 * k) (omega arith), e (2 * k + 1) (omega arith));
-    }
+matched-same node' e m = grind (arith, nat_tests)

@@ -3,17 +3,17 @@
 -- place that node c held there. When the sibling's place has a smaller rank than place p, it had a smaller one than the place that node c
 -- held, so it stands at the node above already, and it or a place with a smaller rank stands at each node further up: these hold the winners
 -- still, and none waits. Else place p wins, and is stored above.
-use Prim.Native.Nat.{ℕ, zero, suc, ◌+◌, ◌*◌, ◌/◌, ◌<◌, ◌≤◌}
+use Prim.Native.Nat.{ℕ, zero, suc, ◌+◌, ◌*◌, ◌/◌, ◌<◌, ◌≤◌, min}
 use mathlib.Core.List.{List}
-use mathlib.Core.Logic.{◌⊎◌, inl, inr, ⊎_elim, ◌≢◌}
+use mathlib.Core.Logic.{◌⊎◌, inl, ⊎_elim, ◌≢◌}
 use mathlib.Core.Path.{◌≡◌, refl, sym, ap, ◌∙◌}
-use native.Mathlib.Decide.{ℕ_discrete, dec_lt}
 use native.Mathlib.Omega.{arith}
 use lib.ListN.{set, length-set}
 use lib.Seq.{get_or-set_same}
-use Rattle.picking.specs.Winners.{key_of, node_of, winner, rank, lesser, sibling_of, Played, Matched, Tree, Beside, Room, Risen, Beaten}
+use Rattle.std.proofs.lemmas.Bool.Decides.{nat_tests}
+use Rattle.picking.specs.Winners.{key_of, node_of, winner, rank, sibling_of, Played, Matched, Tree, Beside, Room, Risen, Beaten}
 use Rattle.picking.proofs.Matches.{above, Pending, pending_next, pending-end, Plays, winner-inside}
-use Rattle.picking.proofs.Ranks.{lesser-first, lesser-second, lesser-swap, lesser-le, le-lesser, winner-rank, rank-one, above-rank}
+use Rattle.picking.proofs.Ranks.{winner-rank, rank-one, above-rank}
 use Rattle.picking.proofs.Replays.{pending-begin, stored-tree, stored-others}
 use Rattle.picking.proofs.Tables.{node-place, plays, beside_same, beside-set, room-same}
 
@@ -47,44 +47,26 @@ rises-begin {old} {node} {n} m leaf key p l same less =
 abbrev Near : ℕ → ℕ → ℕ → Type 0
 Near r a b = (a ≡ b) ⊎ ((r ≤ a) × (r ≤ b))
 
--- of two numbers one of which is r or more the smaller, where it is less than r, is the other
-one-near : (r a b c d : ℕ) → a ≡ c → r ≤ b → r ≤ d → lesser c d < r → lesser a b ≡ lesser c d
-one-near r a b c d e f g h =
-    elim (dec_lt d c) [
-      | yes k ↦ absurd (omega (arith, lesser-second c d k))
-      | no k ↦ let t = lesser-first c d (omega arith) in lesser-first a b (omega (arith, t)) ∙ omega (arith, t)
-    ]
-
 -- the smaller of two numbers goes by those less than r where it is less than r
-lesser-near : (r a b c d : ℕ) → Near r a c → Near r b d → lesser c d < r → lesser a b ≡ lesser c d
-lesser-near r a b c d (inl e) (inl f) h = rw (e, f)
-lesser-near r a b c d (inl e) (inr (f, g)) h = one-near r a b c d e f g h
-lesser-near r a b c d (inr (f, g)) (inl e) h = lesser-swap a b ∙ one-near r b a d c e f g (rw (lesser-swap d c) h) ∙ lesser-swap d c
-lesser-near r a b c d (inr (e, f)) (inr (g, i)) h = absurd (omega (arith, le-lesser r c d f i))
+min-near : (r a b c d : ℕ) → Near r a c → Near r b d → min c d < r → min a b ≡ min c d
+min-near r a b c d h i j = grind (arith, nat_tests)
 
 module _ {key first node : ℕ → ℕ} {n p c : ℕ} (s : n ≤ 4096) (l : p < n) (a : 1 < c) (b : c < 2 * n) (m : Rises key first node n p c) where
   -- the rank at a node was the smaller of that at a node below it and that at the sibling of this one
-  first-rank : (k : ℕ) → 1 < k → k < 2 * n → rank m.old (first (k / 2)) ≡ lesser (rank m.old (first k)) (rank m.old (first (sibling_of k)))
+  first-rank : (k : ℕ) → 1 < k → k < 2 * n → rank m.old (first (k / 2)) ≡ min (rank m.old (first k)) (rank m.old (first (sibling_of k)))
   first-rank k h i =
       ap (rank m.old) (m.tree.played (k / 2) (omega arith) (omega arith))
       ∙ above-rank m.old first s k (m.tree.place k (omega arith) i) (m.tree.place (sibling_of k) (omega arith) (omega arith))
 
   -- the rank at a node before 2 * c is what it was, or not less than that of place p now and before
   near : (k : ℕ) → 1 ≤ k → k < 2 * c → k < 2 * n → Near (rank key p) (rank key (node k)) (rank m.old (first k))
-  near k h i j =
-      elim (ℕ_discrete k c) [
-        | yes e ↦ rw e (inr (rw (m.held a) (omega arith), m.gain a))
-        | no d ↦ elim (ℕ_discrete (node k) p) [
-          | yes e ↦ inr (rw e (omega arith), rw (← m.kept k i j d, e) (omega (arith, m.less)))
-          | no e ↦ inl (rw (← m.kept k i j d) (ap (λ t. 4096 * t + node k) (m.others (node k) (m.pending.place k h j) e)))
-        ]
-      ]
+  near k h i j = grind (arith, nat_tests)
 
   -- where the rank at a node before node c was less than that of place p now, it holds the winner still
   still-won : (k : ℕ) → 1 ≤ k → k < c → k < n → rank m.old (first k) < rank key p → Played key node k
   still-won k h i j v =
       rank-one key (node k) _ (omega (arith, m.pending.place k h (omega arith))) (omega (arith, winner-inside key _ _ left right))
-      (same ∙ e ∙ sym (lesser-near (rank key p) _ _ _ _ (near (2 * k) (omega arith) (omega arith) (omega arith)) (near (2 * k + 1) (omega arith) (omega arith) (omega arith)) (rw (← e) v))
+      (same ∙ e ∙ sym (min-near (rank key p) _ _ _ _ (near (2 * k) (omega arith) (omega arith) (omega arith)) (near (2 * k + 1) (omega arith) (omega arith) (omega arith)) (rw (← e) v))
       ∙ sym (winner-rank key (node (2 * k)) (node (2 * k + 1)) (omega (arith, left)) (omega (arith, right))))
     where
       left : node (2 * k) < n
@@ -96,7 +78,7 @@ module _ {key first node : ℕ → ℕ} {n p c : ℕ} (s : n ≤ 4096) (l : p < 
       same : rank key (node k) ≡ rank m.old (first k)
       same = ⊎_elim (λ e. e) (λ (f, g). absurd (omega arith)) (near k h (omega arith) (omega arith))
 
-      e : rank m.old (first k) ≡ lesser (rank m.old (first (2 * k))) (rank m.old (first (2 * k + 1)))
+      e : rank m.old (first k) ≡ min (rank m.old (first (2 * k))) (rank m.old (first (2 * k + 1)))
       e =
           ap (rank m.old) (m.tree.played k h j)
           ∙ winner-rank m.old _ _ (omega (arith, m.tree.place (2 * k) (omega arith) (omega arith))) (omega (arith, m.tree.place (2 * k + 1) (omega arith) (omega arith)))
@@ -119,7 +101,7 @@ module _ {key first node : ℕ → ℕ} {n p c : ℕ} (s : n ≤ 4096) (l : p < 
       here : rank m.old (first (c / 2)) < rank key p
       here =
           ⊎_elim
-          (λ e. omega (arith, e, v, first-rank c a b, lesser-le (rank m.old (first (sibling_of c))) (rank m.old (first c)), lesser-swap (rank m.old (first c)) (rank m.old (first (sibling_of c)))))
+          (λ e. omega (arith, e, v, first-rank c a b))
           (λ (f, g). absurd (omega arith))
           (near (sibling_of c) (omega arith) (omega arith) (omega arith))
 
@@ -128,7 +110,7 @@ module _ {key first node : ℕ → ℕ} {n p c : ℕ} (s : n ≤ 4096) (l : p < 
       up (suc t) k h e =
           let (i, j) = up t _ (omega arith) refl in
           let r = first-rank (above t (c / 2)) (omega arith) (omega arith) in
-          rw (← e) (omega arith, omega (arith, r, lesser-le (rank m.old (first (above t (c / 2)))) (rank m.old (first (sibling_of (above t (c / 2)))))))
+          rw (← e) (omega arith, omega (arith, r))
 
       won : (t k : ℕ) → 1 ≤ k → k < n → above t (c / 2) ≡ k → Played key node k
       won t k h i e = let (j, u) = up t k h e in still-won k h j i u
@@ -138,7 +120,7 @@ module _ {key first node : ℕ → ℕ} {n p c : ℕ} (s : n ≤ 4096) (l : p < 
     rises-won : p ≡ winner key (node (2 * (c / 2))) (node (2 * (c / 2) + 1))
     rises-won =
         rank-one key p _ (omega arith) (omega (arith, winner-inside key _ _ (place (2 * (c / 2)) (omega arith) (omega arith)) (place (2 * (c / 2) + 1) (omega arith) (omega arith))))
-        (sym (above-rank key node s c (place c (omega arith) b) (place (sibling_of c) (omega arith) (omega arith)) ∙ rw (m.held a) (lesser-first _ _ v)))
+        (sym (above-rank key node s c (place c (omega arith) b) (place (sibling_of c) (omega arith) (omega arith)) ∙ rw (m.held a) (omega arith)))
       where
         place : (k : ℕ) → 1 ≤ k → k < 2 * n → node k < n
         place = m.pending.place
@@ -154,7 +136,7 @@ module _ {key first node : ℕ → ℕ} {n p c : ℕ} (s : n ≤ 4096) (l : p < 
           less = rw (y.keys p l) m.less;
           kept = λ k h i d. y.else k i d ∙ m.kept k (omega arith) i (λ e. omega arith);
           held = λ h. y.here ∙ sym rises-won;
-          gain = λ h. rw (y.keys p l, first-rank c a b) (le-lesser _ _ _ (m.gain a) sibling);
+          gain = λ h. rw (y.keys p l, first-rank c a b) (omega (arith, m.gain a, sibling));
         }
       where
         sibling : rank key p ≤ rank m.old (first (sibling_of c))
@@ -185,9 +167,9 @@ rising-begin {at} {n} {w} p v l r t h =
     e : key_of (set w (at + p) v) at p ≡ v
     e = get_or-set_same w (at + p) v 0 (omega (arith, r.room))
 
-module _ {at n p r k j : ℕ} {w₀ w w' : List ℕ} (c : Rising at n p r w₀ w k) (a : 1 < k) where
+module _ {at n p r k : ℕ} {w₀ w w' : List ℕ} (c : Rising at n p r w₀ w k) (a : 1 < k) where
   -- after a match that place p wins the node above is reached
-  rising-next : Risen at n k p w w' j → Rising at n p r w₀ w' j
+  pub rising-next : {j : ℕ} → Risen at n k p w w' j → Rising at n p r w₀ w' j
   rising-next e =
       rw e.up
       (record {
@@ -208,23 +190,10 @@ module _ {at n p r k j : ℕ} {w₀ w w' : List ℕ} (c : Rising at n p r w₀ w
       y : Plays (key_of w at) (node_of w at n) (key_of w' at) (node_of w' at n) n (k / 2)
       y = plays (k / 2) c.room up (e.stored ∙ ap (set w (at + n + k / 2)) (rises-won c.room.most c.here a c.inside c.rises e.wins))
 
-  -- after one that it loses none waits
-  rising-stop : Beaten at n k p w w' j → Rising at n p r w₀ w' j
-  rising-stop e =
-      rw (e.none, e.same)
-      (record {
-        inside = omega (arith, c.inside);
-        here = c.here;
-        room = c.room;
-        beside = c.beside;
-        own = c.own;
-        rises = rises-stop c.room.most c.here a c.inside c.rises e.loses;
-      })
+  -- after one that it loses none waits: there is a tree
+  pub rising-stop : Beaten at n k p w w' → Tree w' at n
+  rising-stop e = rw e.same (pending-end (rises-stop c.room.most c.here a c.inside c.rises e.loses).pending)
 
-  -- so after either the next is as it should be
-  pub rising-again : Risen at n k p w w' j ⊎ Beaten at n k p w w' j → Rising at n p r w₀ w' j
-  rising-again = ⊎_elim rising-next rising-stop
-
--- at the root and at 0 there is a tree
+-- at the root there is one too
 pub rising-end : {at n p r k : ℕ} {w₀ w : List ℕ} → k ≤ 1 → Rising at n p r w₀ w k → Tree w at n
 rising-end {k = k} l c = let z : k / 2 ≡ 0 = omega arith in pending-end (rw z at c.rises.pending)

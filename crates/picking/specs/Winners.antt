@@ -11,10 +11,6 @@ winner key a b = cond (stable key b a) b a
 abbrev pub rank : (ℕ → ℕ) → ℕ → ℕ
 rank key p = 4096 * key p + p
 
--- the smaller of two numbers
-unfoldable pub lesser : ℕ → ℕ → ℕ
-lesser a b = cond (ltb b a) b a
-
 -- the node beside node k, below the same node
 abbrev pub sibling_of : ℕ → ℕ
 sibling_of k = k + 1 - 2 * (k % 2)
@@ -67,8 +63,7 @@ pub record Risen (at n k p : ℕ) (w w' : List ℕ) (next : ℕ) : Type 0 where
   pub wins : rank (key_of w at) p ≤ rank_of w at n (sibling_of k)
   pub stored : w' ≡ set w (at + n + k / 2) p
 
--- place p loses the match above node k: then there is no next
-pub record Beaten (at n k p : ℕ) (w w' : List ℕ) (next : ℕ) : Type 0 where
-  pub none : next ≡ 0
+-- place p loses the match above node k, and nothing changes
+pub record Beaten (at n k p : ℕ) (w w' : List ℕ) : Type 0 where
   pub loses : rank_of w at n (sibling_of k) < rank (key_of w at) p
   pub same : w' ≡ w

@@ -3,16 +3,15 @@ ghost use Rattle.std.specs.Prelude.{◌≡◌, ◌+◌, ◌<◌, ◌≤◌, ◌&
 ghost use Rattle.graph.specs.Cover as cover;
 ghost use Rattle.peeling.specs.Peeling.{Small, Held, Peeling, Kept, Ended, need_of, raised};
 
-use network::wide16;
-use peeling::{Peel, Scope, degrees_at, need, put};
-use std::num::wrapping_sub_usize;
+use peeling::{Peel, Scope, put};
 
-// Whether the degree is at least `least`, and less than `end`, by one test: what is less than `least` wraps round to a great number.
+// Whether the degree is at least `least`, and less than `end`, by one test: what is less than `least` wraps round to a great number. A range's
+// `contains` makes two, and is slower.
 fn is_between(least: usize, degree: usize, end: usize) -> bool
     requires { least ≤ end }
     ensures { result ≡ (nat_le least degree && nat_lt degree end) }
 {
-    wrapping_sub_usize(degree, least) < end - least
+    degree.wrapping_sub(least) < end - least
 }
 
 // The place pushed where its degree is enough for `scope`, and not for `next`. It needs what the first place of its side needs, which stays
@@ -35,10 +34,10 @@ fn raise(
     ensures head { result.head ≡ peel.head }
     ensures kept { Kept scope.order scope.size work.old work.new }
 {
-    let at = degrees_at(scope) + place;
-    let degree = wide16(work[at]);
+    let at = scope.degrees_at() + place;
+    let degree = usize::from(work[at]);
     put(work, scope, peel.tail, place);
-    if is_between(need(scope, first), degree, need(next, first)) {
+    if is_between(scope.need(first), degree, next.need(first)) {
         peel.grown(scope, first)
     } else {
         peel
@@ -57,7 +56,7 @@ fn raise_side(start: Peel, work: &mut [u16], scope: Scope, next: Scope, first: u
     ensures head { result.head ≡ start.head }
     ensures kept { Kept scope.order scope.size work.old work.new }
 {
-    if need(scope, first) == need(next, first) {
+    if scope.need(first) == next.need(first) {
         return start;
     }
     let mut peel = start;

@@ -4,8 +4,7 @@ ghost use Rattle.network.specs.Refusals.{work_length};
 ghost use Rattle.peeling.specs.Peeling.{Small, Rows, Held, degree_of, with_degree};
 ghost use Rattle.peeling.specs.Recounts.{SideAt, Roomy, Gained, Cleared, Recounted};
 
-use network::wide16;
-use peeling::{Scope, degrees_at};
+use peeling::Scope;
 
 // One edge more for the place.
 fn gain(work: &mut [u16], scope: Scope, place: usize)
@@ -15,11 +14,11 @@ fn gain(work: &mut [u16], scope: Scope, place: usize)
     requires room { degree_of scope.order scope.size work.old place < 65535 }
     ensures { work.new ≡ with_degree scope.order scope.size work.old place (degree_of scope.order scope.size work.old place + 1) }
 {
-    let at = degrees_at(scope) + place;
-    work[at] = work[at] + 1;
+    let at = scope.degrees_at() + place;
+    work[at] += 1;
 }
 
-// One edge more for each place of a row.
+// One edge more for each place of a row. The row stands in the table that is written to, so its entries are read by their index.
 fn gain_row(work: &mut [u16], scope: Scope, place: usize)
     requires small { Small scope.order scope.size }
     requires rows { Rows scope.order scope.size work.old }
@@ -28,12 +27,11 @@ fn gain_row(work: &mut [u16], scope: Scope, place: usize)
     ensures { Gained scope.order scope.size place true work.old work.new }
 {
     let rows = 2 * scope.order + 1;
-    let end = rows + wide16(work[place + 1]);
-    let mut k = rows + wide16(work[place]);
-    while k < end {
-        let other = wide16(work[k]);
+    let start = rows + usize::from(work[place]);
+    let end = rows + usize::from(work[place + 1]);
+    for k in start..end {
+        let other = usize::from(work[k]);
         gain(work, scope, other);
-        k += 1;
     }
 }
 
@@ -45,22 +43,11 @@ fn recount_place(work: &mut [u16], scope: Scope, least: usize, place: usize)
     requires roomy { Roomy scope.order scope.size work.old place }
     ensures { Gained scope.order scope.size place (nat_le least (degree_of scope.order scope.size work.old place)) work.old work.new }
 {
-    let at = degrees_at(scope) + place;
-    if wide16(work[at]) < least {
+    let at = scope.degrees_at() + place;
+    if usize::from(work[at]) < least {
         return;
     }
     gain_row(work, scope, place);
-}
-
-// No edge for the place.
-fn clear(work: &mut [u16], scope: Scope, place: usize)
-    requires small { Small scope.order scope.size }
-    requires long { work_length scope.order scope.size ≤ length work.old }
-    requires is_place { place < 2 * scope.order }
-    ensures { work.new ≡ with_degree scope.order scope.size work.old place 0 }
-{
-    let at = degrees_at(scope) + place;
-    work[at] = 0;
 }
 
 // The degrees of the other side set to 0.
@@ -71,10 +58,8 @@ fn clear_other(work: &mut [u16], scope: Scope, first: usize)
     ensures { Cleared scope.order scope.size first scope.order work.old work.new }
 {
     let n = scope.order;
-    let other = n - first;
-    for i in 0..n {
-        clear(work, scope, other + i);
-    }
+    let at = scope.degrees_at() + n - first;
+    work[at..at + n].fill(0);
 }
 
 // The degrees of the other side counted anew, by the rows of those places of this side, from `first` on, whose degree is at least `least`.
@@ -85,8 +70,7 @@ pub fn recount(work: &mut [u16], scope: Scope, first: usize, least: usize)
     ensures { Recounted scope.order scope.size first least scope.order work.old work.new }
 {
     clear_other(work, scope, first);
-    let n = scope.order;
-    for i in 0..n {
-        recount_place(work, scope, least, first + i);
+    for place in first..first + scope.order {
+        recount_place(work, scope, least, place);
     }
 }

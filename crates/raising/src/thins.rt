@@ -6,9 +6,10 @@ ghost use Rattle.peeling.specs.Recounts.{SideAt, OneSided, Passed, of_side};
 
 use crate::needs::{advance, tighten};
 use crate::recounts::recount;
-use peeling::{Peel, Scope, need};
+use network::Side;
+use peeling::{Peel, Scope};
 
-// What a scope asks of the side from `first` on, and nothing of the other.
+// What a scope asks of the side from `first` on, and nothing of the other. Here a side is told by its first place, from which its places run.
 fn of_side(scope: Scope, first: usize) -> Scope
     ensures { result ≡ of_side scope first }
 {
@@ -43,23 +44,33 @@ fn thin(start: Peel, work: &mut [u16], scope: Scope, first: usize) -> Peel
     ensures kept { Kept scope.order scope.size work.old work.new }
 {
     let peel = drop_waiting(start, work, scope);
-    recount(work, scope, first, need(scope, first));
+    recount(work, scope, first, scope.need(first));
     peel
 }
 
-// The peel of the whole graph for a scope, run until no place is short or a side is empty. It begins with the side from `first` on.
-pub fn whole_from(work: &mut [u16], scope: Scope, first: usize) -> Peel
+// The first place of a side: the sources stand from 0 on, the targets from n on.
+fn first_of(order: usize, side: Side) -> usize
+    ensures { SideAt order result }
+{
+    match side {
+        Side::Source => 0,
+        Side::Target => order,
+    }
+}
+
+// The peel of the whole graph for a scope, run until no place is short or a side is empty. It begins with the side.
+pub fn whole_from(work: &mut [u16], scope: Scope, side: Side) -> Peel
     requires small { Small scope.order scope.size }
     requires held { Held scope.order scope.size work.old }
-    requires side { SideAt scope.order first }
     ensures { Ended false scope work.old work.new result }
 {
+    let first = first_of(scope.order, side);
+    let half = of_side(scope, first);
     let free = Scope {
         x: 0,
         y: 0,
         ..scope
     };
-    let half = of_side(scope, first);
     let fresh = Peel::fresh(work, scope);
     let tight = tighten(fresh, work, free, half.x, half.y);
     let thinned = thin(tight, work, half, first);

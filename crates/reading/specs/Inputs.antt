@@ -1,9 +1,8 @@
 -- What was read lies within the buffer, and is what the reader had.
-use Rattle.std.specs.Prelude.{ℕ, ◌<◌, ◌≤◌, List, length, take}
+use Rattle.std.specs.Prelude.{ℕ, ◌<◌, ◌≤◌, List, Result, Ok, Err, length, take}
 use Rattle.std.specs.Io.KnownBytes.{Consumes, IsAtEnd}
 use Rattle.std.specs.declared.option.Option.{Option}
-use Rattle.reading.specs.declared.Input.{Input}
-use Rattle.reading.specs.declared.Input.TheVariants.{Bytes, Unreadable}
+use Rattle.reading.specs.declared.Unreadable.{Unreadable}
 
 -- k bytes stand at the start of the buffer: those that the reader gave, where they are known, and all that it had where the buffer is not full
 pub record Filled (before after : Option (List ℕ)) (k : ℕ) (buffer : List ℕ) : Type 0 where
@@ -12,6 +11,6 @@ pub record Filled (before after : Option (List ℕ)) (k : ℕ) (buffer : List �
   pub whole : k < length buffer → IsAtEnd after
 
 -- so many bytes stand at the start of the buffer
-abbrev pub Fills : Option (List ℕ) → Option (List ℕ) → Input → List ℕ → Type 0
-Fills before after (Bytes k) buffer = Filled before after k buffer
-Fills before after Unreadable buffer = Unit {0}
+abbrev pub Fills : Option (List ℕ) → Option (List ℕ) → Result ℕ Unreadable → List ℕ → Type 0
+Fills before after (Ok k) buffer = Filled before after k buffer
+Fills before after (Err e) buffer = Unit {0}

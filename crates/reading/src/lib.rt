@@ -5,31 +5,29 @@ ghost use Rattle.reading.specs.Inputs.{Fills};
 
 use std::io::{ErrorKind, Read};
 
-// What was read: so many bytes, none at the end, or nothing, since it cannot be read.
-#[derive(Clone, Copy)]
-pub enum Input {
-    Bytes(usize),
-    Unreadable,
-}
+// The input cannot be read.
+#[derive(Clone, Copy, Debug, PartialEq, Eq)]
+pub struct Unreadable;
 
-// Reads until the input ends or the buffer is full, whatever comes at once. A read that a signal interrupts is tried again.
-pub fn read_input<R: Read>(reader: &mut R, buffer: &mut [u8]) -> Input
+// Reads until the input ends or the buffer is full, whatever comes at once, and answers how many bytes came. A read that a signal interrupts is
+// tried again.
+pub fn read_input<R: Read>(reader: &mut R, buffer: &mut [u8]) -> Result<usize, Unreadable>
     ensures { Fills (R.remaining reader.old) (R.remaining reader.new) result buffer.new }
 {
     let mut done = 0;
     for _ in 0..u64::MAX {
         if done == buffer.len() {
-            return Input::Bytes(done);
+            return Ok(done);
         }
         match reader.read(&mut buffer[done..]) {
-            Ok(0) => return Input::Bytes(done),
+            Ok(0) => return Ok(done),
             Ok(more) => done += more,
             Err(e) => {
                 if e.kind() != ErrorKind::Interrupted {
-                    return Input::Unreadable;
+                    return Err(Unreadable);
                 }
             }
         }
     }
-    Input::Unreadable
+    Err(Unreadable)
 }

@@ -1,13 +1,13 @@
--- A number in decimal: its last digit stands after the digits of the number without it, and a number below 10 is its last digit. And how many
--- digits there are at most.
+-- A number in decimal is what the library prints of it, up to 64 bits. And how many digits there are at most.
 use Prim.Native.Nat.{ℕ, zero, suc, ◌/◌, ◌%◌, ◌^◌, ◌<◌, ◌≤◌}
 use mathlib.Core.List.{◌++◌}
-use mathlib.Core.Path.{◌≡◌}
 use native.Mathlib.Decide.{dec_le}
-use native.Mathlib.Nat.{pow-suc}
+use mathlib.Core.Path.{◌≡◌, sym}
 use native.Mathlib.Omega.{arith}
 use borrow.Author.Tests.{lt-ltb, le-ltb}
-use lib.ListN.{length, length-append}
+use lib.ListN.{length}
+use Rattle.std.specs.Fmt.{decimal as printed}
+use Rattle.std.proofs.lemmas.Fmt.{AppendsLastDigit, decimal_from_appends, length-decimal-le, length-decimal-le_succ}
 use Rattle.report.specs.Text.{digit_text, digits_within, decimal}
 
 -- the digits within any number above n are the same
@@ -21,29 +21,24 @@ digits-within (suc most) (suc more) n h l =
       | no k ↦ rw (lt-ltb n 10 (omega arith))
     ]
 
--- a number below 10 is one digit
-pub decimal_digit : (n : ℕ) → n < 10 → decimal n ≡ digit_text n
-unfolding decimal digits_within
-decimal_digit n l = let e : n % 10 ≡ n = omega arith in rw (lt-ltb n 10 l, e)
-
--- any other is the number without its last digit, and this digit
+-- a number of more digits is the number without its last digit, and this digit
 pub decimal_more : (n : ℕ) → 10 ≤ n → decimal n ≡ decimal (n / 10) ++ digit_text (n % 10)
 unfolding decimal digits_within
 decimal_more n l = rw (le-ltb n 10 l, digits-within n (suc (n / 10)) (n / 10) (omega arith) (omega arith))
 
--- a number below 10 ^ (k + 1) has at most k + 1 digits within any number
-digits-within-length : (most n k : ℕ) → n < 10 ^ suc k → length (digits_within most n) ≤ suc k
+-- a number below 10 is its last digit, and in any other this digit stands after those of the number without it
+last-digit : AppendsLastDigit digits_within
 unfolding digits_within
-digits-within-length zero n k l = omega arith
-digits-within-length (suc most) n zero l = rw (lt-ltb n 10 (omega arith)) (omega arith)
-digits-within-length (suc most) n (suc k) l =
-    elim (dec_le 10 n) [
-      | yes h ↦ rw (le-ltb n 10 h, length-append (digits_within most (n / 10)) (digit_text (n % 10)))
-          (omega (arith, digits-within-length most (n / 10) k (omega (arith, pow-suc 10 (suc k)))))
-      | no h ↦ rw (lt-ltb n 10 (omega arith)) (omega arith)
-    ]
+last-digit =
+    record {
+      one = λ k n l. let e : n % 10 ≡ n = omega arith in rw (lt-ltb n 10 l, e);
+      more = λ k n l. rw (le-ltb n 10 l);
+    }
 
--- and in decimal
-pub decimal-length : (n k : ℕ) → n < 10 ^ suc k → length (decimal n) ≤ suc k
+pub decimal_printed : (n : ℕ) → n < 2 ^ 64 → printed n ≡ decimal n
 unfolding decimal
-decimal-length n k l = digits-within-length (suc n) n k l
+decimal_printed n h = sym (decimal_from_appends digits_within last-digit (suc n) n h (omega (arith, length-decimal-le_succ n h)))
+
+-- a number below 10 ^ k has at most k digits
+pub decimal-length : (n k : ℕ) → 0 < k → n < 10 ^ k → n < 2 ^ 64 → length (decimal n) ≤ k
+decimal-length n k some l h = rw (← decimal_printed n h) (length-decimal-le k n some l h)

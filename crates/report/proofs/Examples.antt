@@ -4,7 +4,7 @@ use Prim.Native.String.{String}
 use mathlib.Core.List.{List, [], ◌∷◌, map}
 use mathlib.Core.Path.{◌≡◌, refl}
 use Rattle.graph.specs.Range.{flat}
-use Rattle.network.specs.File.{plain, at}
+use Rattle.network.specs.declared.Refusal.TheVariants.{Short, Repeat, End}
 use Rattle.report.specs.Text.{ascii, digits_within, decimal, label, link_text, refusal_text, labels_text, numbers_text, group_text, report_text}
 
 -- a text by its definition, and as it is printed
@@ -28,9 +28,9 @@ examples =
       printed = "x 0 y 0 equal 0\nlinks 0 vouchers 0 vouched 0\nS\nT\n";
     }
     ∷ record { text = label (ascii "T") 2047; printed = "T 2047" }
-    ∷ record { text = refusal_text (plain 1); printed = "refused 1\n" }
-    ∷ record { text = refusal_text (at 8 2); printed = "refused 8 at 2\n" }
-    ∷ record { text = refusal_text (at 7 0); printed = "refused 7 at 0\n" }
+    ∷ record { text = refusal_text Short; printed = "refused 1\n" }
+    ∷ record { text = refusal_text (Repeat 2); printed = "refused 8 at 2\n" }
+    ∷ record { text = refusal_text (End 0); printed = "refused 7 at 0\n" }
     ∷ []
 
 -- each text is what is printed

@@ -1,4 +1,3 @@
 pub mod Decimal
-pub mod Puts
 pub mod Lengths
 pub mod Examples

@@ -1,10 +1,10 @@
 -- 01, "The report program": the text that it prints, byte for byte.
 use Prim.Native.Char.{code}
-use Rattle.std.specs.Prelude.{ℕ, zero, suc, ◌+◌, ◌/◌, ◌%◌, ◌≤◌, cond, List, [], ◌∷◌, ◌++◌, ◌≡◌, ltb, length, drop}
+use Rattle.std.specs.Prelude.{ℕ, zero, suc, ◌+◌, ◌/◌, ◌%◌, ◌≤◌, cond, List, [], ◌∷◌, ◌++◌, ◌≡◌, Option, None, Some, ltb, length, drop}
 use Prim.Native.String.{String, [] as []ᵗ, ◌∷◌ as ◌∷ᵗ◌}
 use Rattle.graph.specs.Range.{flat}
 use Rattle.network.specs.declared.Refusal.{Refusal}
-use Rattle.network.specs.File.{names_link}
+use Rattle.network.specs.File.{number_of, link_of}
 use Rattle.network.specs.Groups.{group_of}
 use Rattle.report.specs.declared.Numbers.{Numbers}
 
@@ -39,12 +39,13 @@ abbrev pub newline : List ℕ
 newline = ascii "\n"
 
 -- 01: the link of a refusal that names one
-unfoldable pub link_text : Refusal → List ℕ
-link_text r = cond (names_link r.number) (label (ascii " at") r.link) []
+unfoldable pub link_text : Option ℕ → List ℕ
+link_text None = []
+link_text (Some e) = label (ascii " at") e
 
 -- 01: the line of a refusal
 unfoldable pub refusal_text : Refusal → List ℕ
-refusal_text r = label (ascii "refused") r.number ++ link_text r ++ newline
+refusal_text r = label (ascii "refused") (number_of r) ++ link_text (link_of r) ++ newline
 
 -- a line of three labels; the space between two comes with the second's word
 unfoldable pub labels_text : List ℕ → ℕ → List ℕ → ℕ → List ℕ → ℕ → List ℕ

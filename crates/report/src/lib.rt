@@ -6,10 +6,10 @@ mod refusals;
 mod reports;
 
 pub use refusals::put_refusal;
-pub use reports::put_report;
+pub use reports::{LONGEST_REPORT, put_report};
 
 // The numbers of a report: its finding [x,y], the equal level, E, |S| and |T|.
-#[derive(Clone, Copy)]
+#[derive(Clone, Copy, PartialEq, Eq, Debug)]
 pub struct Numbers {
     pub x: usize,
     pub y: usize,

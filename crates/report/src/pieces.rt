@@ -1,52 +1,33 @@
-// Each function lays a text at a place of the buffer and answers the place past it.
-ghost use Rattle.std.specs.Prelude.{◌<◌, length};
-ghost use Rattle.report.specs.Put.{Put, Room};
-ghost use Rattle.report.specs.Text.{decimal, digit_text, spaced, label};
+// Each function appends a text to one that has room for it. What `write!` puts there is promised only where it answers `Ok`, which nothing promises, so
+// the parts are pushed.
+ghost use Rattle.std.specs.Prelude.{◌≡◌, ◌+◌, ◌≤◌, ◌++◌, length};
+ghost use Rattle.report.specs.Text.{Begins, spaced, label};
 
-pub fn put_bytes(text: &[u8], out: &mut [u8], at: usize) -> usize
-    requires { Room out.old at text.now }
-    ensures { Put out.old at text.now out.new result }
+use arrayvec::ArrayString;
+use itoa::Buffer;
+
+#[tactic(auto, using(crate::proofs::Decimal::decimal_printed))]
+pub fn put_spaced<const N: usize>(text: &mut ArrayString<N>, n: usize)
+    requires { length text.old.bytes + length (spaced n) ≤ N }
+    ensures { text.new.bytes ≡ text.old.bytes ++ spaced n }
 {
-    let end = at + text.len();
-    out[at..end].copy_from_slice(text);
-    end
+    text.push_str(" ");
+    text.push_str(Buffer::new().format(n));
 }
 
-fn put_digit(digit: usize, out: &mut [u8], at: usize) -> usize
-    requires below_ten { digit < 10 }
-    requires room { Room out.old at (digit_text digit) }
-    ensures { Put out.old at (digit_text digit) out.new result }
+pub fn put_label<const N: usize>(text: &mut ArrayString<N>, word: &str, n: usize)
+    requires { length text.old.bytes + length (label word.now n) ≤ N }
+    ensures { text.new.bytes ≡ text.old.bytes ++ label word.now n }
 {
-    out[at] = b'0' + digit as u8;
-    at + 1
+    text.push_str(word);
+    put_spaced(text, n);
 }
 
-// The last digit comes after the digits of the number without it.
-#[tactic(auto, using(crate::proofs::Decimal::decimal_digit))]
-fn put_number(n: usize, out: &mut [u8], at: usize) -> usize
-    requires { Room out.old at (decimal n) }
-    ensures { Put out.old at (decimal n) out.new result }
+// Lays the text at the start of the buffer, and answers its length.
+pub fn lay(text: &str, out: &mut [u8]) -> usize
+    requires { length text.now ≤ length out.old }
+    ensures { Begins out.old text.now out.new result }
 {
-    if n < 10 {
-        return put_digit(n, out, at);
-    }
-    let last = put_number(n / 10, out, at);
-    put_digit(n % 10, out, last)
-}
-
-#[tactic(auto, using(crate::proofs::Puts::put_then))]
-pub fn put_spaced(n: usize, out: &mut [u8], at: usize) -> usize
-    requires { Room out.old at (spaced n) }
-    ensures { Put out.old at (spaced n) out.new result }
-{
-    let next = put_bytes(b" ", out, at);
-    put_number(n, out, next)
-}
-
-pub fn put_label(word: &[u8], n: usize, out: &mut [u8], at: usize) -> usize
-    requires { Room out.old at (label word.now n) }
-    ensures { Put out.old at (label word.now n) out.new result }
-{
-    let next = put_bytes(word, out, at);
-    put_spaced(n, out, next)
+    out[..text.len()].copy_from_slice(text.as_bytes());
+    text.len()
 }

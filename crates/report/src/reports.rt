@@ -1,86 +1,75 @@
 // The four lines of a report.
-ghost use Rattle.std.specs.Prelude.{◌≤◌, ◌<◌, length};
+ghost use Rattle.std.specs.Prelude.{◌≡◌, ◌+◌, ◌≤◌, ◌++◌, length};
 ghost use Rattle.network.specs.File.{most_members};
-ghost use Rattle.report.specs.Put.{Put, Room};
-ghost use Rattle.report.specs.Text.{Begins, labels_text, numbers_text, member_text, members_text, group_text, report_text, longest_report};
+ghost use Rattle.report.specs.Text.{Begins, labels_text, numbers_text, members_text, group_text, report_text, longest_report};
 
 use crate::Numbers;
-use crate::pieces::{put_bytes, put_label, put_spaced};
+use crate::pieces::{lay, put_label, put_spaced};
+use arrayvec::ArrayString;
+
+// No report is longer.
+pub const LONGEST_REPORT: usize = 20643;
 
 // A line of three labels.
 #[tactic(auto, unfolding(crate::specs::Text::labels_text))]
-fn put_labels(
-    first: &[u8],
+fn put_labels<const N: usize>(
+    text: &mut ArrayString<N>,
+    first: &str,
     a: usize,
-    second: &[u8],
+    second: &str,
     b: usize,
-    third: &[u8],
+    third: &str,
     c: usize,
-    out: &mut [u8],
-    at: usize,
-) -> usize
-    requires { Room out.old at (labels_text first.now a second.now b third.now c) }
-    ensures { Put out.old at (labels_text first.now a second.now b third.now c) out.new result }
+)
+    requires { length text.old.bytes + length (labels_text first.now a second.now b third.now c) ≤ N }
+    ensures { text.new.bytes ≡ text.old.bytes ++ labels_text first.now a second.now b third.now c }
 {
-    let next = put_label(first, a, out, at);
-    let after = put_label(second, b, out, next);
-    let last = put_label(third, c, out, after);
-    put_bytes(b"\n", out, last)
+    put_label(text, first, a);
+    put_label(text, second, b);
+    put_label(text, third, c);
+    text.push_str("\n");
 }
 
 #[tactic(auto, unfolding(crate::specs::Text::numbers_text))]
-fn put_numbers(k: Numbers, out: &mut [u8], at: usize) -> usize
-    requires { Room out.old at (numbers_text k) }
-    ensures { Put out.old at (numbers_text k) out.new result }
+fn put_numbers<const N: usize>(text: &mut ArrayString<N>, k: Numbers)
+    requires { length text.old.bytes + length (numbers_text k) ≤ N }
+    ensures { text.new.bytes ≡ text.old.bytes ++ numbers_text k }
 {
-    let next = put_labels(b"x", k.x, b" y", k.y, b" equal", k.equal, out, at);
+    put_labels(text, "x", k.x, " y", k.y, " equal", k.equal);
     put_labels(
-        b"links",
+        text,
+        "links",
         k.edges,
-        b" vouchers",
+        " vouchers",
         k.sources,
-        b" vouched",
+        " vouched",
         k.targets,
-        out,
-        next,
-    )
+    );
 }
 
-// A member, and nothing for who is not in the group.
-#[tactic(auto, using(crate::proofs::Puts::put_none))]
-fn put_member(group: &[u8], u: usize, out: &mut [u8], at: usize) -> usize
-    requires u_in { u < length group.now }
-    requires room { Room out.old at (member_text group.now u) }
-    ensures { Put out.old at (member_text group.now u) out.new result }
-{
-    if group[u] == 1 {
-        return put_spaced(u, out, at);
-    }
-    at
-}
-
-#[tactic(auto, using(crate::proofs::Puts::put_none), unfolding(graph::specs::Range::flat))]
-fn put_members(group: &[u8], n: usize, out: &mut [u8], at: usize) -> usize
+// The members that are in the group.
+#[tactic(auto, unfolding(graph::specs::Range::flat))]
+fn put_members<const N: usize>(text: &mut ArrayString<N>, group: &[u8], n: usize)
     requires n_in { n ≤ length group.now }
-    requires room { Room out.old at (members_text group.now n) }
-    ensures { Put out.old at (members_text group.now n) out.new result }
+    requires room { length text.old.bytes + length (members_text group.now n) ≤ N }
+    ensures { text.new.bytes ≡ text.old.bytes ++ members_text group.now n }
 {
-    let mut next = at;
-    for u in 0..n {
-        next = put_member(group, u, out, next);
+    for (u, byte) in group[..n].iter().enumerate() {
+        if *byte == 1 {
+            put_spaced(text, u);
+        }
     }
-    next
 }
 
 #[tactic(auto, unfolding(crate::specs::Text::group_text))]
-fn put_group(letter: &[u8], group: &[u8], n: usize, out: &mut [u8], at: usize) -> usize
+fn put_group<const N: usize>(text: &mut ArrayString<N>, letter: &str, group: &[u8], n: usize)
     requires n_in { n ≤ length group.now }
-    requires room { Room out.old at (group_text letter.now group.now n) }
-    ensures { Put out.old at (group_text letter.now group.now n) out.new result }
+    requires room { length text.old.bytes + length (group_text letter.now group.now n) ≤ N }
+    ensures { text.new.bytes ≡ text.old.bytes ++ group_text letter.now group.now n }
 {
-    let first = put_bytes(letter, out, at);
-    let members = put_members(group, n, out, first);
-    put_bytes(b"\n", out, members)
+    text.push_str(letter);
+    put_members(text, group, n);
+    text.push_str("\n");
 }
 
 // Lays the report at the start of the buffer, and answers its length. The groups are tables of n bytes or more: 1 in, 0 out.
@@ -92,7 +81,9 @@ pub fn put_report(numbers: Numbers, s: &[u8], t: &[u8], n: usize, out: &mut [u8]
     requires room { longest_report ≤ length out.old }
     ensures { Begins out.old (report_text numbers s.now t.now n) out.new result }
 {
-    let first = put_numbers(numbers, out, 0);
-    let second = put_group(b"S", s, n, out, first);
-    put_group(b"T", t, n, out, second)
+    let mut report = ArrayString::<LONGEST_REPORT>::new();
+    put_numbers(&mut report, numbers);
+    put_group(&mut report, "S", s, n);
+    put_group(&mut report, "T", t, n);
+    lay(report.as_str(), out)
 }

@@ -6,14 +6,14 @@ mod searches;
 use network::Totals;
 
 // The best [x,y] so far.
-#[derive(Clone, Copy)]
+#[derive(Clone, Copy, PartialEq, Eq, Debug)]
 pub struct Best {
     pub x: usize,
     pub y: usize,
 }
 
 // 01: what the finding returns beside its groups.
-#[derive(Clone, Copy)]
+#[derive(Clone, Copy, Debug, PartialEq, Eq)]
 pub struct Ring {
     pub x: usize,
     pub y: usize,

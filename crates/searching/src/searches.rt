@@ -1,6 +1,6 @@
 // The search for the best [x,y], row by row and then column by column, up to the equal level.
 ghost use Rattle.std.specs.Prelude.{false, ◌↔◌, ◌≡◌, ℕ, ◌+◌, ◌*◌, ◌<◌, ◌≤◌, length};
-ghost use Rattle.graph.specs.Core.{apart, Before};
+ghost use Rattle.graph.specs.Core.{Before};
 ghost use Rattle.network.specs.File.{most_members};
 ghost use Rattle.peeling.specs.Peeling.{Small, Held, start_of};
 ghost use Rattle.climbing.specs.Climbs.{rising, Longest, Climbed};
@@ -9,10 +9,10 @@ ghost use Rattle.searching.specs.Searches.{rise_of, pair_at, InRange, FirstBette
 use crate::{Best, Ring};
 use climbing::{Rise, climb, longest_row};
 use grouping::core_in;
-use network::Side;
+use network::{Extent, Side};
 use peeling::Scope;
 
-// What rises where the need of a side is fixed.
+// What rises where the need of a side is fixed: the other side.
 fn rise_of(side: Side) -> Rise
     ensures { result ≡ rise_of side }
 {
@@ -53,16 +53,9 @@ fn pair_at(side: Side, fixed: usize, number: usize) -> Best
     }
 }
 
-// The difference between x and y.
-#[tactic(auto, unfolding(graph::specs::Core::apart))]
-fn difference(x: usize, y: usize) -> usize
-    ensures { result ≡ apart x y }
-{
-    if x < y { y - x } else { x - y }
-}
-
 // 02: whether a pair is better than the best, which is not better than itself: by the greater product, then by the smaller difference, then by the
 // smaller x.
+#[tactic(auto, unfolding(graph::specs::Core::apart))]
 fn is_better(pair: Best, best: Best) -> bool
     requires pair_fits { pair.x * pair.y < 4294967296 }
     requires best_fits { best.x * best.y < 4294967296 }
@@ -70,15 +63,9 @@ fn is_better(pair: Best, best: Best) -> bool
 {
     let product = pair.x * pair.y;
     let best_product = best.x * best.y;
-    if product != best_product {
-        return best_product < product;
-    }
-    let apart = difference(pair.x, pair.y);
-    let best_apart = difference(best.x, best.y);
-    if apart != best_apart {
-        return apart < best_apart;
-    }
-    pair.x < best.x
+    let apart = pair.x.abs_diff(pair.y);
+    let best_apart = best.x.abs_diff(best.y);
+    (best_product, apart, pair.x) < (product, best_apart, best.x)
 }
 
 // Where a row or column begins to be better than the best: up to the quotient no product is greater than that of the best, and past it each is, so
@@ -100,50 +87,48 @@ fn start_of(side: Side, fixed: usize, best: Best) -> usize
 // most edges of a place that rises: that place and all that it is joined to are such a pair, and nothing is climbed.
 fn last_of(
     work: &mut [u16],
-    order: usize,
-    size: usize,
+    extent: Extent,
     side: Side,
     longest: usize,
     fixed: usize,
     start: usize,
 ) -> usize
-    requires small { Small order size }
-    requires held { Held order size work.old }
-    requires longest { Longest (rising order (rise_of side)) work.old (2 * order) longest }
+    requires small { Small extent.order extent.size }
+    requires held { Held extent.order extent.size work.old }
+    requires longest { Longest (rising extent.order (rise_of side)) work.old (2 * extent.order) longest }
     requires start { (1 ≤ start) × (start ≤ longest) }
     requires fits { longest < 65536 }
-    ensures { Climbed order size (rise_of side) fixed start work.old work.new result }
+    ensures { Climbed extent.order extent.size (rise_of side) fixed start work.old work.new result }
 {
     if fixed == 1 {
         return longest;
     }
-    climb(work, order, size, rise_of(side), fixed, start)
+    climb(work, extent, rise_of(side), fixed, start)
 }
 
 // The better of the best and the last core of a row or column. Where it begins past `longest`, the most edges of a place that rises, no core from
 // there on has anybody, and nothing is climbed.
 fn try_one(
     work: &mut [u16],
-    order: usize,
-    size: usize,
+    extent: Extent,
     side: Side,
     longest: usize,
     fixed: usize,
     best: Best,
 ) -> Best
-    requires small { Small order size }
-    requires held { Held order size work.old }
-    requires longest { Longest (rising order (rise_of side)) work.old (2 * order) longest }
+    requires small { Small extent.order extent.size }
+    requires held { Held extent.order extent.size work.old }
+    requires longest { Longest (rising extent.order (rise_of side)) work.old (2 * extent.order) longest }
     requires fits { longest < 65536 }
     requires fixed { (1 ≤ fixed) × (fixed < 65536) }
     requires in_range { InRange best }
-    ensures { Tries order size side fixed best work.old work.new result }
+    ensures { Tries extent.order extent.size side fixed best work.old work.new result }
 {
     let start = start_of(side, fixed, best);
     if longest < start {
         return best;
     }
-    let last = last_of(work, order, size, side, longest, fixed, start);
+    let last = last_of(work, extent, side, longest, fixed, start);
     if last < start {
         return best;
     }
@@ -153,18 +138,19 @@ fn try_one(
 // Every row and then every column up to k: first that of 1, which needs no climb, then from k down, so that of equal products the more even pair,
 // which comes first, is also found first, and the others begin one past the tie. The longest row of the places that rise is the same for a whole
 // side, so it is looked for once.
-fn search_from(work: &mut [u16], order: usize, size: usize, k: usize, start: Best) -> Best
-    requires small { Small order size }
-    requires held { Held order size work.old }
+fn search_from(work: &mut [u16], extent: Extent, k: usize, start: Best) -> Best
+    requires small { Small extent.order extent.size }
+    requires held { Held extent.order extent.size work.old }
     requires equal { (1 ≤ k) × (k < 65536) }
-    requires reaches { Reaches order size k work.old start }
-    ensures { Searched order size k work.old work.new result }
+    requires reaches { Reaches extent.order extent.size k work.old start }
+    ensures { Searched extent.order extent.size k work.old work.new result }
 {
     let mut best = start;
     let mut side = Side::Source;
+    // 01 names the form of these two loops.
     'search: loop {
-        let longest = longest_of(work, order, side);
-        best = try_one(work, order, size, side, longest, 1, best);
+        let longest = longest_of(work, extent.order, side);
+        best = try_one(work, extent, side, longest, 1, best);
         let mut fixed = k;
         loop {
             if fixed <= 1 {
@@ -173,7 +159,7 @@ fn search_from(work: &mut [u16], order: usize, size: usize, k: usize, start: Bes
                 }
                 break;
             }
-            best = try_one(work, order, size, side, longest, fixed, best);
+            best = try_one(work, extent, side, longest, fixed, best);
             fixed -= 1;
         }
         side = Side::Target;
@@ -183,39 +169,29 @@ fn search_from(work: &mut [u16], order: usize, size: usize, k: usize, start: Bes
 
 // The same, from the better of [k,k] and the column of 1, which needs no climb: the better the best is to begin with, the more rows are passed over
 // or soon empty.
-fn search(work: &mut [u16], order: usize, size: usize, k: usize) -> Best
-    requires small { Small order size }
-    requires held { Held order size work.old }
+fn search(work: &mut [u16], extent: Extent, k: usize) -> Best
+    requires small { Small extent.order extent.size }
+    requires held { Held extent.order extent.size work.old }
     requires equal { (1 ≤ k) × (k < 65536) }
-    ensures { Searched order size k work.old work.new result }
+    ensures { Searched extent.order extent.size k work.old work.new result }
 {
-    let longest = longest_of(work, order, Side::Target);
+    let longest = longest_of(work, extent.order, Side::Target);
     let equal = Best { x: k, y: k };
-    let start = try_one(work, order, size, Side::Target, longest, 1, equal);
-    search_from(work, order, size, k, start)
+    let start = try_one(work, extent, Side::Target, longest, 1, equal);
+    search_from(work, extent, k, start)
 }
 
 // 01: the finding, of every graph whose rows the table holds. Where the equal level is 0 there is no edge: x and y are 0, and the groups are those
 // of the [1,1]-core, which is empty (that of [0,0] is everybody).
-pub fn find_in(work: &mut [u16], order: usize, size: usize, s: &mut [u8], t: &mut [u8]) -> Ring
-    requires small { Small order size }
-    requires held { Held order size work.old }
-    requires room { (order ≤ length s.old) × (order ≤ length t.old) }
-    ensures { FoundIn order size work.old work.new s.old s.new t.old t.new result }
+pub fn find_in(work: &mut [u16], extent: Extent, s: &mut [u8], t: &mut [u8]) -> Ring
+    requires small { Small extent.order extent.size }
+    requires held { Held extent.order extent.size work.old }
+    requires room { (extent.order ≤ length s.old) × (extent.order ≤ length t.old) }
+    ensures { FoundIn extent.order extent.size work.old work.new s.old s.new t.old t.new result }
 {
-    let equal = climb(work, order, size, Rise::Both, 0, 1);
+    let equal = climb(work, extent, Rise::Both, 0, 1);
     if equal == 0 {
-        let totals = core_in(
-            work,
-            Scope {
-                order,
-                size,
-                x: 1,
-                y: 1,
-            },
-            s,
-            t,
-        );
+        let totals = core_in(work, Scope::of(extent, 1, 1), s, t);
         return Ring {
             x: 0,
             y: 0,
@@ -223,10 +199,10 @@ pub fn find_in(work: &mut [u16], order: usize, size: usize, s: &mut [u8], t: &mu
             totals,
         };
     }
-    let best = search(work, order, size, equal);
+    let best = search(work, extent, equal);
     let x = best.x;
     let y = best.y;
-    let totals = core_in(work, Scope { order, size, x, y }, s, t);
+    let totals = core_in(work, Scope::of(extent, x, y), s, t);
     Ring {
         x,
         y,

@@ -3,59 +3,56 @@
 use Prim.Native.Nat.{ℕ, ◌≤◌}
 use mathlib.Core.List.{List, ◌++◌}
 use mathlib.Core.Path.{◌≡◌, refl, sym, ap, ◌∙◌}
-use native.Mathlib.Decide.{dec_le}
 use native.Mathlib.Omega.{arith}
 use lib.ListN.{length, drop, length-append}
+use Rattle.std.specs.Prelude.{Option, None, Some, Result, Ok, Err}
+use Rattle.std.proofs.lemmas.Option.{none-some, same_Some}
 use Rattle.network.specs.declared.Refusal.{Refusal}
-use Rattle.network.specs.File.{most_links, link_at, graph_of, old_refusal, none}
+use Rattle.network.specs.File.{most_links, link_at, graph_of, old_refusal}
 use Rattle.network.specs.Bytes.{written}
 use Rattle.network.specs.Refusals.{order_refusal}
 use Rattle.network.specs.Calls.{refused, accepted}
-use Rattle.network.proofs.Accepted.{old-proper, old-accepted}
-use Rattle.network.proofs.Answers.{refusal-some}
+use Rattle.network.proofs.Accepted.{old-accepted}
 use Rattle.network.proofs.Written.{length-written}
-use Rattle.calls.specs.declared.WriteAnswer.{WriteAnswer}
-use Rattle.calls.specs.declared.WriteAnswer.TheVariants.{Written, Refused}
 use Rattle.calls.specs.Calls.{Rewritten, OrderCall}
-use Rattle.calls.proofs.Writer.{out-read, out_none, read_again}
+use Rattle.calls.proofs.Writer.{out-first, out_none, read_again}
 use Rattle.report.specs.Text.{refusal_text, Begins, Rendered}
 use Rattle.vouch_order.specs.Converted.{Converts}
 
 -- where the output holds the largest file the conversion is refused by the old rule alone
 order-full : (f : List ℕ) (o : ℕ) → link_at most_links ≤ o → order_refusal f o ≡ old_refusal f
-order-full f o l =
-    elim (dec_le (old_refusal f).number 0) [
-      | no n ↦ sym (out-read (graph_of f).size o refl (λ i. n (omega (arith, i))))
-      | yes z ↦ let e = (old-proper f).number-none (omega (arith, z)) in
-          out_none _ o e (omega (arith, l, ((old-accepted f).0 e).sound.header.size-most)) ∙ sym e
-    ]
+order-full f o l = go (old_refusal f) refl
+  where
+    go : (r : Option Refusal) → old_refusal f ≡ r → order_refusal f o ≡ old_refusal f
+    go (Some q) e = out-first (graph_of f).size o e ∙ sym e
+    go None e = out_none _ o e (omega (arith, l, ((old-accepted f).0 e).sound.header.size-most)) ∙ sym e
 
-module _ {f before middle : List ℕ} {a : WriteAnswer} (l : link_at most_links ≤ length before) (c : OrderCall f before middle a) where
+module _ {f before middle : List ℕ} {a : Result ℕ Refusal} (l : link_at most_links ≤ length before) (c : OrderCall f before middle a) where
   -- a refused conversion: its line is printed
-  pub converted-refused : {after : List ℕ} {r : ℕ} (q : Refusal) → a ≡ Refused q → Begins middle (refusal_text q) after r → Rendered (Converts f) before after r
+  pub converted-refused : {after : List ℕ} {r : ℕ} (q : Refusal) → a ≡ Err q → Begins middle (refusal_text q) after r → Rendered (Converts f) before after r
   converted-refused {after} {r} q i b = elim c [
-    | refused n j k ↦
-        let told : q ≡ order_refusal f (length before) = cc in
-        let same : q ≡ old_refusal f = told ∙ order-full f (length before) l in
-        let given : old_refusal f ≡ none → ⊥ = λ h. refusal-some n (order-full f (length before) l ∙ h) in
+    | refused p e j k ↦
+        let same : p ≡ q = cc in
+        let given : old_refusal f ≡ Some q = sym (order-full f (length before) l) ∙ e ∙ ap Some same in
+        let never : old_refusal f ≡ None → ⊥ = λ h. none-some q (sym h ∙ given) in
         let unmoved : middle ≡ before = cc in
         record {
           text = refusal_text q;
-          told = record { refused = λ h. ap refusal_text same; ordered = λ h. absurd (given h); again = λ h. absurd (given h) };
+          told = record { refused = λ p h. ap refusal_text (same_Some _ _ (sym given ∙ h)); ordered = λ h. absurd (never h); again = λ h. absurd (never h) };
           begins = rw unmoved at b;
         }
     | accepted v n j d ↦ absurd (let x : ◌≡◌ {A = ℕ} 0 1 = cc in omega arith)
   ]
 
   -- a conversion that is not refused has written the file with its links in order,
-  written-told : (m : ℕ) → a ≡ Written m → (old_refusal f ≡ none) × Rewritten f before middle m
+  written-told : (m : ℕ) → a ≡ Ok m → (old_refusal f ≡ None) × Rewritten f before middle m
   written-told m i = elim c [
-    | refused n j k ↦ absurd (let x : ◌≡◌ {A = ℕ} 0 1 = cc in omega arith)
+    | refused p e j k ↦ absurd (let x : ◌≡◌ {A = ℕ} 0 1 = cc in omega arith)
     | accepted v n j d ↦ let x : v ≡ m = cc in (sym (order-full f (length before) l) ∙ n, rw x at d)
   ]
 
   -- which stands at the start of the buffer
-  pub converted-written : {r : ℕ} (m : ℕ) → a ≡ Written m → r ≡ link_at m → Rendered (Converts f) before middle r
+  pub converted-written : {r : ℕ} (m : ℕ) → a ≡ Ok m → r ≡ link_at m → Rendered (Converts f) before middle r
   converted-written m i e =
       let g = graph_of f in
       let (n, d) = written-told m i in
@@ -63,7 +60,7 @@ module _ {f before middle : List ℕ} {a : WriteAnswer} (l : link_at most_links 
       let laid : middle ≡ written g ++ drop (length (written g)) before = d.file ∙ ap (λ k. written g ++ drop k before) length-file in
       record {
         text = written g;
-        told = record { refused = λ h. absurd (h n); ordered = λ h. refl; again = λ h. read_again ((old-accepted f).0 h) };
+        told = record { refused = λ q h. absurd (none-some q (sym n ∙ h)); ordered = λ h. refl; again = λ h. read_again ((old-accepted f).0 h) };
         begins = record {
           laid = laid;
           size = e ∙ length-file;

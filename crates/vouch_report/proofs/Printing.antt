@@ -2,23 +2,21 @@
 -- everyone, so that 11 is not either; and the answer tells the refusal or what is found among everyone.
 use Prim.Native.Nat.{ℕ, ◌≤◌}
 use mathlib.Core.List.{List}
-use mathlib.Core.Path.{◌≡◌, sym, ap, ◌∙◌}
-use native.Mathlib.Decide.{dec_le}
+use mathlib.Core.Path.{◌≡◌, refl, sym, ap, ◌∙◌}
 use native.Mathlib.Omega.{arith}
 use lib.ListN.{length, length-replicate}
+use Rattle.std.specs.Prelude.{Option, None, Some, Result, Ok, Err}
+use Rattle.std.proofs.lemmas.Option.{none-some, same_Some}
 use Rattle.network.specs.declared.Refusal.{Refusal}
-use Rattle.network.specs.File.{most_members, most_links, graph_of, none, file_refusal}
+use Rattle.network.specs.File.{most_members, most_links, graph_of, file_refusal}
 use Rattle.network.specs.Refusals.{work_length, core_refusal}
 use Rattle.network.specs.Accepted.{Sound}
 use Rattle.network.specs.Calls.{refused, accepted}
-use Rattle.network.proofs.Accepted.{file-proper}
 use Rattle.network.proofs.Accepted as file
-use Rattle.network.proofs.Answers.{refusal-some, or_else-first}
+use Rattle.network.proofs.Answers.{or_else-first}
 use Rattle.cores.proofs.WayIn.{core-none}
 use Rattle.cores.proofs.Everyone.{ones, ones-all, ones-group}
 use Rattle.searching.specs.declared.Ring.{Ring}
-use Rattle.finding.specs.declared.FindingAnswer.{FindingAnswer}
-use Rattle.finding.specs.declared.FindingAnswer.TheVariants.{Found, Refused}
 use Rattle.finding.specs.Findings.{FindingTold, FindingCall}
 use Rattle.report.specs.Text.{refusal_text, report_text, Begins, Rendered}
 use Rattle.vouch_report.specs.Printed.{Prints}
@@ -27,60 +25,61 @@ use Rattle.vouch_report.specs.Parts.{numbers_of}
 -- tables for the largest file are long enough for every file, so that the finding among everyone is refused as the file is
 finding-full : (f : List ℕ) → core_refusal f ones ones most_members most_members (work_length most_members most_links) ≡ file_refusal f
 unfolding core_refusal
-finding-full f =
-    elim (dec_le (file_refusal f).number 0) [
-      | no n ↦ or_else-first _ (λ i. n (omega (arith, i)))
-      | yes z ↦ let e = (file-proper f).number-none (omega (arith, z)) in
-          let h = ((file.accepted f).0 e).sound.header in
-          let long : (graph_of f).order ≤ length ones = omega (arith, length-replicate {A = ℕ} most_members 1, h.order-most) in
-          let group = ones-group (graph_of f).order h.order-most in
-          core-none f ones ones most_members most_members (work_length most_members most_links) e
-          record { a-long = long; b-long = long; sources = h.order-most; targets = h.order-most; work = omega (arith, h) } (group, group) ∙ sym e
-    ]
+finding-full f = go (file_refusal f) refl
+  where
+    go : (r : Option Refusal) → file_refusal f ≡ r → core_refusal f ones ones most_members most_members (work_length most_members most_links) ≡ file_refusal f
+    go (Some q) e = or_else-first _ e ∙ sym e
+    go None e =
+        let a = (file.accepted f).0 e in
+        let h = a.sound.header in
+        let long : (graph_of f).order ≤ length ones = omega (arith, length-replicate {A = ℕ} most_members 1, h.order-most) in
+        let group = ones-group (graph_of f).order h.order-most in
+        core-none f ones ones most_members most_members (work_length most_members most_links) a
+        record { a-long = long; b-long = long; sources = h.order-most; targets = h.order-most; work = omega (arith, h) } (group, group) ∙ sym e
 
 -- the lengths of the program's tables
 abbrev pub Full : List ℕ → List ℕ → List ℕ → Type 0
 Full s t w = (length s ≡ most_members) × (length t ≡ most_members) × (length w ≡ work_length most_members most_links)
 
-module _ {f s s' t t' w w' : List ℕ} {a : FindingAnswer} (z : Full s t w) (c : FindingCall f ones ones s s' t t' w w' a) where
+module _ {f s s' t t' w w' : List ℕ} {a : Result Ring Refusal} (z : Full s t w) (c : FindingCall f ones ones s s' t t' w w' a) where
   -- in them the call is refused as the file is
   call-refusal : core_refusal f ones ones (length s) (length t) (length w) ≡ file_refusal f
   call-refusal = rw (z.0, z.1, z.2) (finding-full f)
 
   -- a refused finding: its line is printed
-  pub rendered-refused : {before after : List ℕ} {r : ℕ} (q : Refusal) → a ≡ Refused q → Begins before (refusal_text q) after r → Rendered (Prints f) before after r
+  pub rendered-refused : {before after : List ℕ} {r : ℕ} (q : Refusal) → a ≡ Err q → Begins before (refusal_text q) after r → Rendered (Prints f) before after r
   rendered-refused q i b = elim c.call [
-    | refused n j k ↦
-        let told : q ≡ core_refusal f ones ones (length s) (length t) (length w) = cc in
-        let same : q ≡ file_refusal f = told ∙ call-refusal in
+    | refused p e j k ↦
+        let same : p ≡ q = cc in
+        let given : file_refusal f ≡ Some q = sym call-refusal ∙ e ∙ ap Some same in
         record {
           text = refusal_text q;
-          told = record { refused = λ h. ap refusal_text same; accepted = λ h. absurd (refusal-some n (call-refusal ∙ h)) };
+          told = record { refused = λ p h. ap refusal_text (same_Some _ _ (sym given ∙ h)); accepted = λ h. absurd (none-some q (sym h ∙ given)) };
           begins = b;
         }
     | accepted v n j d ↦ absurd (let x : ◌≡◌ {A = ℕ} 0 1 = cc in omega arith)
   ]
 
   -- the call that found has found this
-  found-told : (g : Ring) → a ≡ Found g → (core_refusal f ones ones (length s) (length t) (length w) ≡ none) × FindingTold f ones ones s s' t t' w w' g
+  found-told : (g : Ring) → a ≡ Ok g → (core_refusal f ones ones (length s) (length t) (length w) ≡ None) × FindingTold f ones ones s s' t t' w w' g
   found-told g i = elim c.call [
-    | refused n j k ↦ absurd (let x : ◌≡◌ {A = ℕ} 0 1 = cc in omega arith)
+    | refused p e j k ↦ absurd (let x : ◌≡◌ {A = ℕ} 0 1 = cc in omega arith)
     | accepted v n j d ↦ let x : v ≡ g = cc in (n, rw x at d)
   ]
 
   -- so its file is accepted,
-  pub found-sound : (g : Ring) → a ≡ Found g → Sound f
+  pub found-sound : (g : Ring) → a ≡ Ok g → Sound f
   found-sound g i = ((file.accepted f).0 (sym call-refusal ∙ (found-told g i).0)).sound
 
   -- and its report is printed
-  pub rendered-found : {before after : List ℕ} {r : ℕ} (g : Ring) → a ≡ Found g → {n : ℕ} → n ≡ (graph_of f).order → Begins before (report_text (numbers_of g) s' t' n) after r → Rendered (Prints f) before after r
+  pub rendered-found : {before after : List ℕ} {r : ℕ} (g : Ring) → a ≡ Ok g → {n : ℕ} → n ≡ (graph_of f).order → Begins before (report_text (numbers_of g) s' t' n) after r → Rendered (Prints f) before after r
   rendered-found g i {n} e b =
       let (h, d) = found-told g i in
       let all = ones-all (graph_of f).order (found-sound g i).header.order-most in
       record {
         text = report_text (numbers_of g) s' t' n;
         told = record {
-          refused = λ u. absurd (u (sym call-refusal ∙ h));
+          refused = λ q u. absurd (none-some q (sym (sym call-refusal ∙ h) ∙ u));
           accepted = λ u. record {
             numbers = numbers_of g;
             s = s';

@@ -1,9 +1,10 @@
 -- 01, "The report program": what is printed for an input, whatever it is.
-use Rattle.std.specs.Prelude.{ℕ, List, ◌≢◌, ◌≡◌}
+use Rattle.std.specs.Prelude.{ℕ, List, ◌≡◌, None, Some}
 use Rattle.graph.specs.Graph.{card, edges}
 use Rattle.graph.specs.Core.{EqualLevel}
 use Rattle.graph.specs.Quiet.{Outcome}
-use Rattle.network.specs.File.{graph_of, none, file_refusal}
+use Rattle.network.specs.declared.Refusal.{Refusal}
+use Rattle.network.specs.File.{graph_of, file_refusal}
 use Rattle.network.specs.Groups.{group_of}
 use Rattle.report.specs.declared.Numbers.{Numbers}
 use Rattle.report.specs.Text.{refusal_text, report_text}
@@ -20,5 +21,5 @@ pub record Reports (f text : List ℕ) : Type 0 where
 
 -- the line of the refusal that the file gives, or the report
 pub record Prints (f text : List ℕ) : Type 0 where
-  pub refused : file_refusal f ≢ none → text ≡ refusal_text (file_refusal f)
-  pub accepted : file_refusal f ≡ none → Reports f text
+  pub refused : (r : Refusal) → file_refusal f ≡ Some r → text ≡ refusal_text r
+  pub accepted : file_refusal f ≡ None → Reports f text

@@ -4,24 +4,13 @@
 ghost use Rattle.std.specs.Prelude.{◌≤◌, ◌≡◌, length};
 ghost use Rattle.report.specs.Text.{longest_report, Rendered};
 ghost use Rattle.vouch_report.specs.Printed.{Prints};
-ghost use Rattle.vouch_report.specs.Parts.{refusal_of, numbers_of};
+ghost use Rattle.vouch_report.specs.Parts.{numbers_of};
 
-use finding::FindingAnswer;
-use network::{MOST_MEMBERS, MOST_WORK, Refusal, order_of};
-use reading::{Input, read_input};
-use report::Numbers;
+use network::{MOST_MEMBERS, MOST_WORK, order_of};
+use report::{LONGEST_REPORT, Numbers};
 use searching::Ring;
 
-// The refusal of a finding that is refused.
-fn refusal_of(answer: FindingAnswer) -> Refusal
-    ensures { result ≡ refusal_of answer }
-{
-    match answer {
-        FindingAnswer::Refused(refusal) => refusal,
-        FindingAnswer::Found(_) => Refusal::none(),
-    }
-}
-
+// `usize` has no `From<u32>`.
 fn numbers_of(ring: Ring) -> Numbers
     ensures { result ≡ numbers_of ring }
 {
@@ -46,29 +35,12 @@ fn render(file: &[u8], out: &mut [u8]) -> usize
     let mut s = [0u8; MOST_MEMBERS];
     let mut t = [0u8; MOST_MEMBERS];
     let answer = finding::finding(file, &everyone, &everyone, &mut s, &mut t, &mut work);
-    let FindingAnswer::Found(ring) = answer else {
-        return report::put_refusal(refusal_of(answer), out);
+    let Ok(ring) = answer else {
+        return report::put_refusal(answer.unwrap_err(), out);
     };
     report::put_report(numbers_of(ring), &s, &t, order_of(file), out)
 }
 
-fn complain(rt: &impl Eprint, what: &str) {
-    let _ = eprintln!(rt; "vouch-report: {what}");
-}
-
-fn print(rt: &(impl Print + Eprint), file: &[u8]) {
-    let mut out = [0u8; 20643];
-    let length = render(file, &mut out);
-    if rt.write_all(&out[..length]).is_err() {
-        complain(rt, "standard output cannot be written");
-    }
-}
-
 fn main(rt: HostRuntime) {
-    let mut input = [0u8; 32778];
-    let Input::Bytes(length) = read_input(&mut rt.stdin(), &mut input) else {
-        complain(&rt, "standard input cannot be read");
-        return;
-    };
-    print(&rt, &input[..length]);
+    filter::run::<LONGEST_REPORT, _>(&rt, "vouch-report", render);
 }

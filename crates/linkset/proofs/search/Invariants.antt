@@ -7,8 +7,8 @@ abbrev pub invariant-loop-left : goal.invariant-loop-left
 invariant-loop-left g l =
     record {
       within : l.low + l.left ≤ l.initial.low + l.initial.left;
-      narrowed : (m : ℕ) → Sorted l.set m → Narrowed (earlier g.row.ENDS l.set l.source l.target) m l.initial.low l.initial.left
-          → Narrowed (earlier g.row.ENDS l.set l.source l.target) m l.low l.left;
+      narrowed : (m : ℕ) → Sorted l.set m → Narrowed (earlier g.row.ENDS l.set l.link.source l.link.target) m l.initial.low l.initial.left
+          → Narrowed (earlier g.row.ENDS l.set l.link.source l.link.target) m l.low l.left;
     }
 
 abbrev pub decreases-loop-left : goal.decreases-loop-left

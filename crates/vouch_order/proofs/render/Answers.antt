@@ -3,8 +3,8 @@
 use Rattle.vouch_order.proofs.Converting.{converted-refused, converted-written}
 use Rattle.vouch_order.proofs.render.Goals as goal
 
-pub returns-in-Written : goal.returns-in-Written
-returns-in-Written c = converted-written c.requires c.order.ensures c.in-Written.size c.in-Written.is c.link_at.ensures
+pub returns-in-Ok : goal.returns-in-Ok
+returns-in-Ok c = converted-written c.requires c.order.ensures c.in-Ok.size c.in-Ok.is c.link_at.ensures
 
-pub returns-in-Refused : goal.returns-in-Refused
-returns-in-Refused c = converted-refused c.requires c.order.ensures c.in-Refused.refusal c.in-Refused.is c.put_refusal.ensures
+pub returns-in-Err : goal.returns-in-Err
+returns-in-Err c = converted-refused c.requires c.order.ensures c.in-Err.refusal c.in-Err.is c.put_refusal.ensures

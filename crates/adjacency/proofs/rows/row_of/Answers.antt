@@ -1,12 +1,8 @@
--- `row_of` meets its contract: a refusal that is not 0 is not `none`, and past that test the two starts lie in the tables, in order, so
--- that the part from one to the other is the row.
-use Rattle.std.proofs.Common.{arith}
-use Rattle.adjacency.proofs.Refusals.{row-accepted, accepted_row}
+-- A row whose place is told is not refused, and the part is that place.
+use Rattle.adjacency.proofs.Refusals.{row-accepted}
 use Rattle.adjacency.proofs.rows.row_of.Goals as goal
 
-pub returns : goal.returns
-returns c =
-    record {
-      refused = λ h. absurd (h (row-accepted _ _ _ (accepted_row _ _ _ (omega arith))));
-      accepted = λ h. simp (c.wide16-to.ensures.0, c.wide16-from.ensures.0);
-    }
+pub returns-in-Ok : goal.returns-in-Ok
+returns-in-Ok c =
+    let (row, start, next) = c.in-Ok.ensures.range in
+    record { refused = λ h. absurd (h (row-accepted _ _ _ row)); accepted = λ h. rw (start, next) }

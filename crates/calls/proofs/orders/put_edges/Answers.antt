@@ -1,11 +1,20 @@
-use Rattle.std.proofs.Common.{◌≡◌, ◌<◌, ◌∙◌, arith, rules}
+use Rattle.std.proofs.Common.{◌≡◌, ℕ, List, ◌<◌, ◌-◌, ◌∙◌, take, length, length-take, get_or, arith, rules}
+use Rattle.graph.specs.Graph.{Graph}
 use Rattle.graph.specs.Range.{flat}
-use Rattle.graph.specs.Order.{edge_at}
+use Rattle.graph.specs.Order.{precedes, edge_at}
+use Rattle.graph.specs.Sorting.{Sorted}
 use Rattle.graph.proofs.Order.{precedes-strict, edge_at-lt}
-use Rattle.graph.proofs.Sorting.{sorted-nth}
+use Rattle.graph.proofs.Sorting.{sorted-front}
 use Rattle.network.specs.File.{graph_of}
 use Rattle.network.proofs.Puts.{sets-edges}
 use Rattle.calls.proofs.orders.put_edges.Goals as goal
+
+-- entry i of the order is the edge at place i, and an edge of the file
+entry : (g : Graph) {order : List ℕ} {n i : ℕ} → n ≡ g.size → Sorted (precedes g) g.size order → i < length (take (n - 0) order)
+    → (get_or (take (n - 0) order) i 0 ≡ edge_at g i) × (edge_at g i < g.size)
+entry g {i = i} is sorted l =
+    let inside : i < g.size = omega (arith, length-take {A = ℕ}) in
+    (sorted-front (precedes-strict g) sorted is _ inside, edge_at-lt g _ inside)
 
 pub loop-i-init : goal.loop-i-init
 unfolding flat
@@ -13,21 +22,18 @@ loop-i-init c = search rules
 
 pub end_at-source-requires : goal.end_at-source-requires
 end_at-source-requires c =
-    let g = graph_of c.args.file.now in
-    let inside : c.loop-i.i < g.size = omega (arith, c.size_of-size.ensures) in
-    (c.requires.sound.header, omega (arith, c.wide16-edge.ensures, sorted-nth (precedes-strict g) c.requires.sorted c.loop-i.i inside, edge_at-lt g c.loop-i.i inside))
+    (c.requires.sound.header, omega (arith, c.from.ensures, entry (graph_of c.args.file.now) c.size_of.ensures.0 c.requires.sorted c.loop-i-test.true))
 
 pub end_at-target-requires : goal.end_at-target-requires
 end_at-target-requires c =
-    let g = graph_of c.args.file.now in
-    let inside : c.loop-i.i < g.size = omega (arith, c.size_of-size.ensures) in
-    (c.requires.sound.header, omega (arith, c.wide16-edge.ensures, sorted-nth (precedes-strict g) c.requires.sorted c.loop-i.i inside, edge_at-lt g c.loop-i.i inside))
+    (c.requires.sound.header, omega (arith, c.from-in-loop-i.ensures, entry (graph_of c.args.file.now) c.size_of.ensures.0 c.requires.sorted c.loop-i-test.true))
 
 pub loop-i-preserved : goal.loop-i-preserved
 loop-i-preserved c =
     let g = graph_of c.args.file.now in
-    let inside : c.loop-i.i < g.size = omega (arith, c.size_of-size.ensures) in
-    let edge : c.wide16-edge.result ≡ edge_at g c.loop-i.i = c.wide16-edge.ensures.0 ∙ sorted-nth (precedes-strict g) c.requires.sorted c.loop-i.i inside in
+    let (at, inside) = entry g c.size_of.ensures.0 c.requires.sorted c.loop-i-test.true in
+    let source : c.from.result ≡ edge_at g c.loop-i.i = c.from.ensures ∙ at in
+    let target : c.from-in-loop-i.result ≡ edge_at g c.loop-i.i = c.from-in-loop-i.ensures ∙ at in
     c.put_edge.ensures
-    ∙ rw (c.link_at.ensures, c.end_at-source.ensures.0, c.end_at-target.ensures.0, edge, c.loop-i.invariant)
+    ∙ rw (c.link_at.ensures, c.end_at-source.ensures.0, c.end_at-target.ensures.0, source, target, c.loop-i.invariant)
     (sets-edges (λ i. g.source (edge_at g i)) (λ i. g.target (edge_at g i)) c.args.out.now c.loop-i.i)

@@ -1,10 +1,14 @@
 -- `write_accepted` refuses by a short output; else it stores the file, which is the written one.
-use Rattle.std.proofs.Common.{◌≤◌, length, refl, arith}
+use Rattle.std.proofs.Common.{rules, ◌≤◌, length, refl, arith}
 use Rattle.network.specs.Calls as call
 use Rattle.network.specs.File.{link_at, graph_of}
 use Rattle.network.proofs.Accepted.{accepted-distinct, accepted}
-use Rattle.calls.proofs.Writer.{out_none, rewritten}
+use Rattle.network.proofs.Answers.{call-refused}
+use Rattle.calls.proofs.Writer.{out-short, out_none, rewritten}
 use Rattle.calls.proofs.writes.write_accepted.Goals as goal
+
+pub returns-then-out-link_at : goal.returns-then-out-link_at
+returns-then-out-link_at c = call-refused (out-short _ _ ((accepted _).1 c.requires) (search rules))
 
 pub returns : goal.returns
 returns c =

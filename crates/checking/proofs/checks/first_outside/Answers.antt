@@ -1,22 +1,28 @@
-use Rattle.std.proofs.Common.{sym, arith}
-use Rattle.graph.proofs.Ranges.{first-is}
-use Rattle.network.specs.File.{graph_of}
-use Rattle.checking.proofs.Compare.{names-outside, outside-source, outside-target}
+-- `first_outside` looks for the first edge that names a vertex not below n.
+use Rattle.std.proofs.Common.{◌≡◌, ℕ, ◌<◌, ◌≤◌, true, false, Option, Some, None, MatchOption, sym, arith, rules, tests}
+use Rattle.std.specs.Option.{SomeIff}
+use Rattle.std.proofs.lemmas.Iterator.{first_from_Range}
+use Rattle.graph.specs.Graph.{Graph}
+use Rattle.graph.proofs.Ranges.{first-none, first-is}
+use Rattle.network.specs.File.{graph_of, outside}
+use Rattle.checking.proofs.Compare.{names-outside}
 use Rattle.checking.proofs.checks.first_outside.Goals as goal
 
-pub returns-then-order-end_at : goal.returns-then-order-end_at
-returns-then-order-end_at c =
-    let g = graph_of c.args.file.now in
-    sym (first-is (names-outside g) _ c.loop-e.e (omega (arith, c.size_of-size.ensures)) c.loop-e.invariant
-    (λ l. outside-source g _ c.order_of-order.ensures.0 c.end_at.ensures.0 c.if-order-end_at.true))
+-- no edge below k does
+abbrev pub Inside : Graph → ℕ → Type 0
+Inside g k = (e : ℕ) → 0 ≤ e → e < k → names-outside g e ≡ false
 
-pub returns-then-order-end_at-2 : goal.returns-then-order-end_at-2
-returns-then-order-end_at-2 c =
-    let g = graph_of c.args.file.now in
-    sym (first-is (names-outside g) _ c.loop-e.e (omega (arith, c.size_of-size.ensures)) c.loop-e.invariant
-    (λ l. outside-target g _ c.order_of-order.ensures.0 c.end_at-in-loop-e.ensures.0 c.if-order-end_at-2.true))
+-- what is found is the first
+first-outside : (g : Graph) (n : ℕ) (r : Option ℕ) → n ≡ g.size → MatchOption r (Inside g n) (λ k. (0 ≤ k) × (k < n) × (names-outside g k ≡ true) × Inside g k)
+    → SomeIff r (outside g < g.size) (outside g)
+first-outside g n None q h = λ l. omega (arith, l, first-none (names-outside g) g.size (λ e m. h e (omega arith) (omega arith)))
+first-outside g n (Some k) q h =
+    let e = sym (first-is (names-outside g) g.size k (omega (arith, h.1)) (λ e l. h.3 e (omega arith) l) (λ l. h.2)) in
+    (omega (arith, e, h.1), e)
 
 pub returns : goal.returns
 returns c =
     let g = graph_of c.args.file.now in
-    sym (first-is (names-outside g) _ c.size_of-size.result (omega (arith, c.size_of-size.ensures)) (λ d h. c.loop-e.invariant d (omega arith)) (λ h. absurd (omega (arith, c.size_of-size.ensures))))
+    first-outside g _ c.find.result c.size_of-size.ensures.0
+    (first_from_Range _ _ _ _ (λ i. names-outside g i ≡ true) (λ i. names-outside g i ≡ false) c.find.ensures.ran
+    (λ x q k. search (rules, tests)) (λ x q k. (search rules, search (rules, tests))))

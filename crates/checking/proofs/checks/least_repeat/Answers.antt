@@ -1,31 +1,73 @@
-use Rattle.std.proofs.Common.{◌<◌, ◌-◌, ◌∙◌, arith}
+use Rattle.std.proofs.Common.{◌≡◌, ℕ, List, suc, ◌<◌, ◌≤◌, ◌+◌, ◌-◌, ◌∙◌, length, take, drop, length-take, get_or, sym, ap, arith}
+use Rattle.std.proofs.lemmas.Iterator.{window_more}
+use Rattle.std.specs.Slice.Iter.{windows_rest}
+use Rattle.graph.specs.Graph.{Graph}
+use Rattle.graph.specs.Order.{edge_at}
 use Rattle.graph.proofs.Order.{precedes-strict, edge_at-lt}
-use Rattle.graph.proofs.Sorting.{sorted-nth}
+use Rattle.graph.proofs.Sorting.{sorted-front}
+use Rattle.checking.proofs.Repeats.{least-last, least-taken, least-kept}
 use Rattle.network.specs.File.{graph_of}
-use Rattle.checking.proofs.Repeats.{least_step, least-last}
+use Rattle.checking.proofs.checks.least_repeat.Goals.{After-from-edge}
 use Rattle.checking.proofs.checks.least_repeat.Goals as goal
 
-pub lesser_repeat-least-requires : goal.lesser_repeat-least-requires
-lesser_repeat-least-requires c =
-    let g = graph_of c.args.file.now in
-    let inside : c.loop-i.i < g.size = omega (arith, c.size_of-size.ensures) in
-    let before = sorted-nth (precedes-strict g) c.requires.sorted (c.loop-i.i - 1) (omega (arith, inside)) in
-    let edge = sorted-nth (precedes-strict g) c.requires.sorted c.loop-i.i inside in (
-      (c.requires.sound.header, omega (arith, before, edge_at-lt g (c.loop-i.i - 1) (omega (arith, inside)), c.wide16-before.ensures)),
-      (c.requires.sound.header, omega (arith, edge, edge_at-lt g c.loop-i.i inside, c.wide16-edge.ensures)),
-    )
+-- the pair at hand, of which so many edges and then so many fewer are left: its edges are those of places i and i + 1 in the order
+record Pair (g : Graph) (all rest rest' : List ℕ) (i before edge : ℕ) : Type 0 where
+  inside : suc i < g.size
+  first : before ≡ edge_at g i
+  second : edge ≡ edge_at g (suc i)
+  next : i + 2 ≡ length all - length rest' + 1
+  short : length rest' ≤ length all
+  left : rest' ≡ drop (length all - length rest') all
 
-pub loop-i-preserved : goal.loop-i-preserved
-loop-i-preserved c =
-    let g = graph_of c.args.file.now in
-    let inside : c.loop-i.i < g.size = omega (arith, c.size_of-size.ensures) in
+-- each pair is so
+pair : (c : After-from-edge) → let all = take (c.size_of-size.result - 0) c.args.order.now in let rest = windows_rest c.loop-pair.pair-iterator in
+    Pair (graph_of c.args.file.now) all rest (windows_rest c.next.new.self) (length all - length rest) c.from-before.result c.from-edge.result
+pair c =
+    let all = take (c.size_of-size.result - 0) c.args.order.now in
+    let v = c.loop-pair.invariant in
+    let i = length all - length (windows_rest c.loop-pair.pair-iterator) in
+    let (fewer, left, some, reads) = window_more all c.loop-pair.pair-iterator c.next.new.self _ _ c.in-Some.is c.next.ensures.steps (omega arith) v.short v.left in
+    let inside : suc i < (graph_of c.args.file.now).size = omega (arith, some, v.pairs, v.short, length-take {A = ℕ}, c.size_of-size.ensures) in
+    let entry = sorted-front (precedes-strict (graph_of c.args.file.now)) c.requires.sorted c.size_of-size.ensures.0 in
     record {
-      from_one = omega arith;
-      found = rw c.lesser_repeat-least.ensures
-          (least_step g c.loop-i.i c.loop-i.least _ _ c.loop-i.invariant.from_one inside
-          (c.wide16-before.ensures.0 ∙ sorted-nth (precedes-strict g) c.requires.sorted (c.loop-i.i - 1) (omega (arith, inside)))
-          (c.wide16-edge.ensures.0 ∙ sorted-nth (precedes-strict g) c.requires.sorted c.loop-i.i inside) c.loop-i.invariant.found);
+      inside = inside;
+      first = c.from-before.ensures ∙ reads 0 0 (omega (arith, v.pairs)) ∙ ap (λ k. get_or all k 0) (omega arith) ∙ entry i (omega arith);
+      second = c.from-edge.ensures ∙ reads 1 0 (omega (arith, v.pairs)) ∙ ap (λ k. get_or all k 0) (omega arith) ∙ entry (suc i) inside;
+      next = omega (arith, fewer, some, v.pairs, v.short);
+      short = omega (arith, fewer, v.short);
+      left = left;
+    }
+
+pub is_same-requires : goal.is_same-requires
+is_same-requires c =
+    let g = graph_of c.args.file.now in
+    let p = pair c in
+    let i = length (take (c.size_of-size.result - 0) c.args.order.now) - length (windows_rest c.loop-pair.pair-iterator) in
+    let inside : i < g.size = omega (arith, p.inside) in
+    ((c.requires.sound.header, omega (arith, p.first, inside, edge_at-lt g i inside)), (c.requires.sound.header, omega (arith, p.second, edge_at-lt g (suc i) p.inside)))
+
+pub loop-pair-preserved-then-is_same : goal.loop-pair-preserved-then-is_same
+loop-pair-preserved-then-is_same c =
+    let p = pair (goal.at.loop-pair-preserved-then-is_same c).After-from-edge in
+    record {
+      pairs = c.next.ensures.steps.0 ∙ c.loop-pair.invariant.pairs;
+      short = p.short;
+      left = p.left;
+      found = rw (← p.next, c.min-least.ensures) (least-taken _ _ _ _ _ p.inside p.first p.second (sym c.is_same.ensures ∙ c.if-is_same.true) c.loop-pair.invariant.found);
+    }
+
+pub loop-pair-preserved : goal.loop-pair-preserved
+loop-pair-preserved c =
+    let p = pair (goal.at.loop-pair-preserved c).After-from-edge in
+    record {
+      pairs = c.next.ensures.steps.0 ∙ c.loop-pair.invariant.pairs;
+      short = p.short;
+      left = p.left;
+      found = rw (← p.next) (least-kept _ _ _ _ _ p.first p.second (sym c.is_same.ensures ∙ c.if-is_same.false) c.loop-pair.invariant.found);
     }
 
 pub returns : goal.returns
-returns c = least-last (graph_of c.args.file.now) c.loop-i.i c.loop-i.least (omega (arith, c.size_of-size.ensures)) c.loop-i.invariant.found
+returns c =
+    let all = take (c.size_of-size.result - 0) c.args.order.now in
+    let rest = windows_rest c.loop-pair.pair-iterator in
+    least-last (graph_of c.args.file.now) (length all - length rest + 1) c.loop-pair.least (omega (arith, c.in-None.ensures.steps.1.0, c.loop-pair.invariant.pairs, length-take {A = ℕ}, c.requires.room, c.size_of-size.ensures)) c.loop-pair.invariant.found

@@ -2,12 +2,12 @@ use Rattle.climbing.proofs.Climbing.{climb-some, climb-next, climb-ends}
 use Rattle.climbing.proofs.climbs.climb.Goals as goal
 
 pub least_left-k-requires-clause-some : goal.least_left-k-requires-clause-some
-least_left-k-requires-clause-some c = climb-some c.loop-rise.invariant (cc) c.asked-scope.ensures
+least_left-k-requires-clause-some c = climb-some c.loop-extent.invariant (cc) c.asked-scope.ensures
 
-pub loop-rise-preserved : goal.loop-rise-preserved
-loop-rise-preserved c =
-    climb-next c.loop-rise.invariant c.asked-scope.ensures c.least_left-k.ensures.least (cc) c.least_left-k.ensures.fits c.asked-in-loop-rise.ensures c.advance-peel.ensures
+pub loop-extent-preserved : goal.loop-extent-preserved
+loop-extent-preserved c =
+    climb-next c.loop-extent.invariant c.asked-scope.ensures c.least_left-k.ensures.least (cc) c.least_left-k.ensures.fits c.asked-in-loop-extent.ensures c.advance-peel.ensures
 
 pub returns : goal.returns
 returns c =
-    climb-ends c.loop-rise.invariant c.requires.start (cc) (rw c.asked.ensures at c.begin-peel.ensures.kept)
+    climb-ends c.loop-extent.invariant c.requires.start (cc) (rw c.asked.ensures at c.begin-peel.ensures.kept)

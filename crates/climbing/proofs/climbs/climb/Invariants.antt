@@ -5,8 +5,8 @@ use Rattle.std.proofs.Common.{◌+◌, ◌-◌}
 use Rattle.climbing.proofs.Climbing.{Climbing}
 use Rattle.climbing.proofs.climbs.climb.Given as goal
 
-abbrev pub invariant-loop-rise : goal.invariant-loop-rise
-invariant-loop-rise l = Climbing l.order l.size l.rise l.fixed l.start l.initial.work l.work l.k l.peel
+abbrev pub invariant-loop-extent : goal.invariant-loop-extent
+invariant-loop-extent l = Climbing l.extent.order l.extent.size l.rise l.fixed l.start l.initial.work l.work l.k l.peel
 
-abbrev pub decreases-loop-rise : goal.decreases-loop-rise
-decreases-loop-rise l = l.start + 65536 - l.k
+abbrev pub decreases-loop-extent : goal.decreases-loop-extent
+decreases-loop-extent l = l.start + 65536 - l.k

@@ -1,15 +1,19 @@
-use Rattle.std.proofs.Common.{◌≡◌, ℕ, ◌+◌, ◌*◌, ◌<◌, ◌≤◌, true, ◌&&◌, leb, List, get_or, sym, ◌∙◌, le_trans, arith, leb-true, le-leb}
+use Rattle.std.proofs.Common.{◌≡◌, ℕ, ◌+◌, ◌-◌, ◌*◌, ◌<◌, ◌≤◌, Bool, true, cond, ◌&&◌, leb, ltb, min, ◌⊎◌, inl, inr, List, Result, Ok, Err, take, drop, length, get_or, ap, sym, ◌∙◌, le_trans, arith, leb-true, le-leb}
 use mathlib.Core.Bool.{false≢true}
 use native.Mathlib.Decide.{dec_le, dec_lt}
-use borrow.Author.Tests.{lt-leb}
+use borrow.Author.Tests.{lt-leb, lt-ltb, le-ltb}
+use Rattle.std.specs.Result.{OkIff, result_unwrap_or}
+use Rattle.std.specs.declared.num.TryFromIntError.{TryFromIntError}
+use Rattle.std.proofs.lemmas.List.{get_or-take, get_or-drop, length-take, length-take-le, length-drop}
 use Rattle.graph.proofs.Tests.{and_left, and_right, and_both}
 use Rattle.peeling.specs.declared.Scope.{Scope}
 use Rattle.peeling.specs.Peeling.{need_of, degree_of}
 use Rattle.climbing.specs.declared.Rise.{Rise}
 use Rattle.climbing.specs.Climbs.{first_rising, end_rising, rising, rests}
 use Rattle.climbing.proofs.Asks.{rising-range, rising-before, rising-between, rising-past}
-use Rattle.climbing.proofs.Leasts.{Lowest, lowest-skips, lowest-next, lowest-ends}
+use Rattle.climbing.proofs.Leasts.{Lowest, lowest-skips, lowest-next, lowest-shift, lowest-ends}
 use Rattle.climbing.proofs.climbs.least_left.Goals as goal
+use Rattle.climbing.proofs.climbs.least_left.Goals.{then-degree-enough, else-degree-enough}
 
 -- the least of those from the first place that rises up to the end is the least of all that are left and rise
 rests-lowest : (c : Scope) (rise : Rise) (w : List ℕ) (k : ℕ) {at first end least : ℕ} → at ≡ 2 * c.order + 1 + 2 * c.size
@@ -38,19 +42,70 @@ rests-inside c rise w k {first = first} {end} a f e needed p l h =
       rw (a, ← needed p up) enough,
     )
 
-pub loop-place-preserved : goal.loop-place-preserved
-loop-place-preserved c =
-    lowest-next c.loop-place.invariant c.lesser_degree-least.ensures.fits (rw (le-leb _ _ c.loop-place.auto.place) c.lesser_degree-least.ensures.lesser)
+-- the lesser of `least` and a degree that counts only where it is at least k
+counts : (k d least counted : ℕ) → least < 65536 → ((d < k) × (counted ≡ 65535)) ⊎ ((k ≤ d) × (counted ≡ d)) → min least counted ≡ cond (leb k d && ltb d least) d least
+counts k d least counted top (inl (h, e)) = rw (lt-leb k d h) (omega arith)
+counts k d least counted top (inr (h, e)) = rw (le-leb k d h) (elim (dec_lt d least) [ yes l ↦ rw (lt-ltb d least l) (omega arith) | no l ↦ rw (le-ltb d least (omega arith)) (omega arith) ])
+
+-- k in 16 bits, or the greatest number of these where it is greater
+narrow : (r : Result ℕ TryFromIntError) (k u : ℕ) → OkIff r (k < 65536) k → u ≡ result_unwrap_or r 65535 → (u ≤ k) × (k < 65536 → u ≡ k)
+narrow (Ok x) k u h e = (omega (arith, h.1), λ l. e ∙ h.1)
+narrow (Err x) k u h e = elim (dec_lt k 65536) [ yes l ↦ absurd (h l) | no l ↦ (omega arith, λ l. absurd (h l)) ]
+
+-- the entries that are looked at, and how many they are
+entry : (w : List ℕ) (a n i : ℕ) → i < length (take n (drop a w)) → get_or (take n (drop a w)) i 0 ≡ get_or w (a + i) 0
+entry w a n i h = get_or-take n (drop a w) i 0 (omega (arith, length-take n (drop a w))) ∙ get_or-drop a w i 0
+
+size : (w : List ℕ) (a n : ℕ) → a + n ≤ length w → length (take n (drop a w)) ≡ n
+size w a n h = length-take-le n (drop a w) (omega (arith, length-drop a w))
+
+-- the least among them is the least among the places from the first that rises up to the end
+placed : (w : List ℕ) (k at first end n least : ℕ) → first + n ≡ end → at + end ≤ length w
+    → Lowest (λ p. leb k (get_or (take n (drop (at + first) w)) p 0)) (λ p. get_or (take n (drop (at + first) w)) p 0) n least
+    → Lowest (λ p. leb first p && leb k (get_or w (at + p) 0)) (λ p. get_or w (at + p) 0) end least
+placed w k at first end n least e long o =
+    let all : Lowest Q (λ p. get_or w (at + p) 0) (first + n) least =
+    lowest-shift first (λ i h. rw (le-leb first (first + i) (omega arith), value i h)) value (λ p h. rw (lt-leb first p h)) o in
+    rw e at all
+  where
+    Q : ℕ → Bool
+    Q p = leb first p && leb k (get_or w (at + p) 0)
+
+    value : (i : ℕ) → i < n → get_or w (at + (first + i)) 0 ≡ get_or (take n (drop (at + first) w)) i 0
+    value i h = ap (λ j. get_or w j 0) (omega arith) ∙ sym (entry w (at + first) n i (omega (arith, size w (at + first) n (omega arith))))
+
+pub loop-degree-preserved : goal.loop-degree-preserved
+loop-degree-preserved c =
+    let o = c.loop-degree.invariant in
+    record {
+      lowest =
+          lowest-next o.lowest
+          (rw (entry c.args.work.now _ _ c.loop-degree.degree-index c.loop-degree-test.true) (omega (arith, c.type_inv.work (c.degrees_at-at.result + c.first_rising.result + c.loop-degree.degree-index))))
+          (cc (counts _ _ _ _ o.fits (elim c.if-degree-enough.branch [
+            | then-degree-enough w ↦ inl (w.if-degree-enough.true, w.counted-is)
+            | else-degree-enough w ↦ inr (w.if-degree-enough.false, w.counted-is)
+          ])));
+      fits = omega (arith, o.fits);
+    }
 
 pub returns-clause-least : goal.returns-clause-least
 returns-clause-least c =
     let a = c.args in
-    let l = c.loop-place in
+    let l = c.loop-degree in
     let s = c.requires.some in
     let at = c.degrees_at-at.ensures in
-    let first = c.first_rising-place.ensures in
-    let end : l.place ≡ end_rising a.scope.order a.rise = omega (arith, (rising-range a.scope.order a.rise).0) in
+    let first = c.first_rising.ensures in
+    let end = c.end_rising.ensures in
+    let range = rising-range a.scope.order a.rise in
+    let long : c.degrees_at-at.result + c.end_rising.result ≤ length a.work.now = omega (arith, range.0, range.1) in
+    let n = c.degrees_at-at.result + c.end_rising.result - (c.degrees_at-at.result + c.first_rising.result) in
+    let all : l.degree-index ≡ n = omega (arith, size a.work.now (c.degrees_at-at.result + c.first_rising.result) n (omega (arith, range.0))) in
+    let o = placed a.work.now c.unwrap_or-enough.result c.degrees_at-at.result c.first_rising.result c.end_rising.result n l.least (omega (arith, range.0)) long (rw all at l.invariant.lowest) in
+    let enough = narrow c.try_from.result a.k _ c.try_from.ensures c.unwrap_or-enough.ensures in
     let (i, j, h) = rests-inside a.scope a.rise a.work.now a.k at first end c.requires.needed s.number s.below s.passes in
-    let small = l.invariant.small s.number j (and_both (le-leb _ _ i) (le-leb _ _ (le_trans c.narrow-enough.ensures.no_more h))) in
-    let same : c.narrow-enough.result ≡ a.k = c.narrow-enough.ensures.exact (omega arith) in
-    rw c.wide16.ensures.0 (lowest-ends (rests-lowest a.scope a.rise a.work.now a.k at first end c.requires.needed (rw same at l.invariant)) s)
+    let small = o.small s.number j (and_both (le-leb _ _ i) (le-leb _ _ (le_trans enough.0 h))) in
+    let same : c.unwrap_or-enough.result ≡ a.k = enough.1 (omega arith) in
+    rw c.from.ensures (lowest-ends (rests-lowest a.scope a.rise a.work.now a.k at first end c.requires.needed (rw same at o)) s)
+
+pub returns-clause-fits : goal.returns-clause-fits
+returns-clause-fits c = omega (arith, c.from.ensures)

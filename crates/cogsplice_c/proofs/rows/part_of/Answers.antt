@@ -1,22 +1,15 @@
--- `part_of` refuses as the row does; past that test the two starts lie in the starts table, in order.
-use Rattle.std.proofs.Common.{ap, ◌∙◌, refl, rules, arith}
-use Rattle.adjacency.proofs.Refusals.{row-accepted, accepted_row}
+-- A row whose place is told is not refused.
+use Rattle.std.proofs.Common.{ap, sym}
+use Rattle.network.specs.File.{number_told}
+use Rattle.adjacency.proofs.Refusals.{row-accepted}
 use Rattle.cogsplice_c.proofs.rows.part_of.Goals as goal
 
-pub returns-then-refusal-ne0 : goal.returns-then-refusal-ne0
-returns-then-refusal-ne0 c =
+pub returns-in-Ok : goal.returns-in-Ok
+returns-in-Ok c =
+    let (row, start, next) = c.in-Ok.ensures.range in
     record {
-      refusal = c.row_number-refusal.ensures;
-      refused = λ h. (refl, refl);
-      start = λ h. absurd (c.if-refusal-ne0.true (c.row_number-refusal.ensures ∙ ap (λ r. r.number) h));
-      length = λ h. absurd (c.if-refusal-ne0.true (c.row_number-refusal.ensures ∙ ap (λ r. r.number) h));
-    }
-
-pub returns : goal.returns
-returns c =
-    record {
-      refusal = search rules;
-      refused = λ h. absurd (h (row-accepted _ _ _ (accepted_row _ _ _ (omega arith))));
-      start = λ h. c.wide16-start.ensures.0;
-      length = λ h. omega arith;
+      refusal = ap number_told (sym (row-accepted _ _ _ row));
+      refused = λ h. absurd (h (row-accepted _ _ _ row));
+      start = λ h. start;
+      length = λ h. rw (start, next);
     }

@@ -1,19 +1,19 @@
 -- `core` is refused on the way in, or writes the groups that the peel leaves, and keeps them inside A and B.
-use Rattle.std.proofs.Common.{[], ◌∷◌, refl, sym, ap, ◌∙◌}
+use Rattle.std.proofs.Common.{rules, [], ◌∷◌, refl, sym, ap, ◌∙◌}
 use Rattle.network.specs.Calls as call
-use Rattle.network.proofs.Answers.{call_kept}
+use Rattle.network.proofs.Answers.{call-handed}
 use Rattle.cores.proofs.WayIn.{core-entry, entry-refused, entry_ready}
 use Rattle.cores.proofs.Told.{core-told}
 use Rattle.cores.proofs.asks.core.Goals as goal
 
-pub returns-in-Refused : goal.returns-in-Refused
-returns-in-Refused c =
+pub returns-in_err-extent : goal.returns-in_err-extent
+returns-in_err-extent c =
     let a = c.args in
-    let (e, n, k) = entry-refused _ _ _ _ _ _ _ _ c.enter-entry.ensures _ c.in-Refused.is in
-    call_kept (e ∙ core-entry _ _ _ _ _ _) n (ap (λ w. a.s.now ∷ a.t.now ∷ w ∷ []) k)
+    let (e, k) = entry-refused _ _ _ c.in_err-extent.ensures in
+    call-handed {q = c.in_err-extent.field-0.0} _ (search rules) (search rules) (sym (core-entry _ _ _ _ _ _) ∙ e) (ap (λ w. a.s.now ∷ a.t.now ∷ w ∷ []) k)
 
-pub returns-in-Ready : goal.returns-in-Ready
-returns-in-Ready c =
-    let (e, r) = entry_ready _ _ _ _ _ _ _ _ c.enter-entry.ensures _ _ c.in-Ready.is in
+pub returns : goal.returns
+returns c =
+    let (e, r) = entry_ready _ _ _ c.in_ok-extent.ensures in
     call.accepted _ (sym (core-entry _ _ _ _ _ _) ∙ e) refl
-    (core-told _ r c.core_in-totals.ensures c.wide16.ensures.0 c.wide16-in-Ready.ensures.0 c.keep_inside.ensures c.keep_inside-in-Ready.ensures)
+    (core-told _ r (rw c.of-scope.ensures at c.core_in-totals.ensures) c.from.ensures c.from-2.ensures c.keep_inside.ensures c.keep_inside-2.ensures)

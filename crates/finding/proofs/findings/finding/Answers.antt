@@ -1,15 +1,15 @@
 -- `finding` is refused on the way in, or finds among the links that are laid into the work table.
-use Rattle.std.proofs.Common.{sym, ◌∙◌}
+use Rattle.std.proofs.Common.{rules, sym, ◌∙◌}
 use Rattle.cores.proofs.WayIn.{core-entry, entry-refused, entry_ready}
 use Rattle.finding.proofs.FindingCalls.{finding-refused, finding-done}
 use Rattle.finding.proofs.findings.finding.Goals as goal
 
-pub returns-in-Refused : goal.returns-in-Refused
-returns-in-Refused c =
-    let (e, n, k) = entry-refused _ _ _ _ _ _ _ _ c.enter-entry.ensures _ c.in-Refused.is in
-    finding-refused (e ∙ core-entry _ _ _ _ _ _) n k
+pub returns-in_err-extent : goal.returns-in_err-extent
+returns-in_err-extent c =
+    let (e, k) = entry-refused _ _ _ c.in_err-extent.ensures in
+    finding-refused {q = c.in_err-extent.field-0.0} _ (search rules) (search rules) (sym (core-entry _ _ _ _ _ _) ∙ e) k
 
-pub returns-in-Ready : goal.returns-in-Ready
-returns-in-Ready c =
-    let (e, r) = entry_ready _ _ _ _ _ _ _ _ c.enter-entry.ensures _ _ c.in-Ready.is in
+pub returns : goal.returns
+returns c =
+    let (e, r) = entry_ready _ _ _ c.in_ok-extent.ensures in
     finding-done (sym (core-entry _ _ _ _ _ _) ∙ e) r c.find_in.ensures

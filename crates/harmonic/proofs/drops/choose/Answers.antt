@@ -3,7 +3,8 @@ use Rattle.std.proofs.Common.{arith}
 use Rattle.harmonic.proofs.Sides.{next_place}
 use Rattle.harmonic.proofs.drops.choose.Goals as goal
 
-pub returns-then-wide16-lt-FIRST_MARK : goal.returns-then-wide16-lt-FIRST_MARK
-returns-then-wide16-lt-FIRST_MARK c =
+pub returns-then-from-lt-FIRST_MARK : goal.returns-then-from-lt-FIRST_MARK
+returns-then-from-lt-FIRST_MARK c =
     let a = c.args in
-    next_place a.order a.size a.work.now c.first_of-first.ensures c.place_at.ensures (omega arith)
+    let key = rw c.bracket_of-bracket.ensures at c.from.ensures in
+    next_place a.extent.order a.extent.size a.work.now (rw c.bracket_of-bracket.ensures at c.first_of-first.ensures) c.place_at.ensures (omega (arith, key, c.if-from-lt-FIRST_MARK.true))

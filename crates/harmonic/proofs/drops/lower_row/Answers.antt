@@ -10,18 +10,18 @@ bounds-work-k c = lower-inside c.requires.rows c.requires.is_place c.loop-k.inva
 
 pub lower-requires-clause-is_place : goal.lower-requires-clause-is_place
 lower-requires-clause-is_place c =
-    lower-place c.requires.rows c.requires.is_place c.loop-k.invariant c.loop-k-test.true c.wide16-other.ensures.0
+    lower-place c.requires.rows c.requires.is_place c.loop-k.invariant c.loop-k-test.true c.from-other.ensures
 
 pub lower-requires-clause-has_edge : goal.lower-requires-clause-has_edge
 lower-requires-clause-has_edge c =
     let q = c.requires in
     let l = c.loop-k-test.true in
-    let e = c.wide16-other.ensures.0 in
+    let e = c.from-other.ensures in
     lower-some q.rows q.is_place c.loop-k.invariant l e (q.spare _ (lower-place q.rows q.is_place c.loop-k.invariant l e))
 
 pub loop-k-preserved : goal.loop-k-preserved
 loop-k-preserved c =
-    lower-next c.requires.rows c.requires.is_place c.loop-k.invariant c.loop-k-test.true c.wide16-other.ensures.0 c.lower.ensures
+    lower-next c.requires.rows c.requires.is_place c.loop-k.invariant c.loop-k-test.true c.from-other.ensures c.lower.ensures
 
 pub returns : goal.returns
 returns c = lower-ends c.requires.rows c.requires.is_place c.loop-k.invariant c.loop-k-test.false

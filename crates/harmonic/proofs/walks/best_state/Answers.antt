@@ -7,30 +7,30 @@ use Rattle.harmonic.proofs.walks.best_state.Goals as goal
 
 pub returns-then-peel-eq0 : goal.returns-then-peel-eq0
 returns-then-peel-eq0 c =
-    let e = c.fresh-peel.ensures in
+    let e = rw c.of.ensures at c.fresh-peel.ensures in
     tells_none e.peeling e.head e.kept c.requires.small c.if-peel-eq0.true
 
 pub build-requires : goal.build-requires
 build-requires c =
-    let e = c.fresh-peel.ensures in
-    room c.requires.small (some-order e.peeling e.head e.kept c.requires.held (omega arith)) (omega (arith, (held_rows c.requires.held).long))
+    let e = rw c.of.ensures at c.fresh-peel.ensures in
+    rw c.bracket_of.ensures (room c.requires.small (some-order e.peeling e.head e.kept c.requires.held (omega arith)) (omega (arith, (held_rows c.requires.held).long)))
 
 pub walk-requires-clause-some_order : goal.walk-requires-clause-some_order
 walk-requires-clause-some_order c =
-    let e = c.fresh-peel.ensures in
+    let e = rw c.of.ensures at c.fresh-peel.ensures in
     some-order e.peeling e.head e.kept c.requires.held (omega arith)
 
 pub walk-requires-clause-held : goal.walk-requires-clause-held
 walk-requires-clause-held c =
-    let e = c.fresh-peel.ensures in
-    held_kept c.requires.held (tree-kept e.peeling e.head e.kept c.build.ensures.beside)
+    let e = rw c.of.ensures at c.fresh-peel.ensures in
+    held_kept c.requires.held (tree-kept e.peeling e.head e.kept (rw c.bracket_of.ensures at c.build.ensures.beside))
 
 pub walk-requires-clause-begins : goal.walk-requires-clause-begins
 walk-requires-clause-begins c =
-    let e = c.fresh-peel.ensures in
-    drops-begin e.peeling e.head e.kept c.build.ensures.beside
+    let e = rw c.of.ensures at c.fresh-peel.ensures in
+    drops-begin e.peeling e.head e.kept (rw c.bracket_of.ensures at c.build.ensures.beside)
 
 pub returns : goal.returns
 returns c =
-    let e = c.fresh-peel.ensures in
-    tells-best e.peeling e.head e.kept c.build.ensures.beside (omega arith) c.walk.ensures
+    let e = rw c.of.ensures at c.fresh-peel.ensures in
+    tells-best e.peeling e.head e.kept (rw c.bracket_of.ensures at c.build.ensures.beside) (omega arith) c.walk.ensures

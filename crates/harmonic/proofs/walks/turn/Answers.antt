@@ -9,7 +9,7 @@ drop_place-requires-clause-spare c =
 
 pub less-requires-clause-has_links : goal.less-requires-clause-has_links
 less-requires-clause-has_links c =
-    let d = rw c.number_of-number.ensures at c.wide16-degree.ensures.0 in
+    let d = rw (c.bracket_of.ensures, c.number_of-number.ensures) at c.from-degree.ensures in
     omega (arith, d, turn-links c.requires.small c.requires.at.1 c.requires.next)
 
 pub less-requires-clause-has_place : goal.less-requires-clause-has_place
@@ -22,5 +22,5 @@ returns c =
     record {
       tree = d.tree;
       kept = d.kept;
-      each = λ g a. rw (c.less.ensures, rw e at c.wide16-degree.ensures.0) (turn-next c.requires.small a c.requires.next d);
+      each = λ g a. rw (c.less.ensures, rw (c.bracket_of.ensures, e) at c.from-degree.ensures) (turn-next c.requires.small a c.requires.next d);
     }

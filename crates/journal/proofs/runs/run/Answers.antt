@@ -21,7 +21,7 @@ loop-i-preserved c =
     let turned = rw (order, c.entry_at.ensures) at (c.follow.ensures (after j c.loop-i.i) (rw order c.loop-i.invariant.tabled)) in
     record {
       tabled = tabled-next j c.loop-i.i _ _ turned.tabled;
-      numbered = numbers-next j c.args.results.now c.loop-i.results c.loop-i.i _ c.loop-i.invariant.numbered turned.number_is (omega (arith, c.requires.room));
+      numbered = rw c.number_told.ensures (numbers-next j c.args.results.now c.loop-i.results c.loop-i.i _ c.loop-i.invariant.numbered turned.number_is (omega (arith, c.requires.room)));
       work_length = c.follow.auto.work ∙ c.loop-i.invariant.work_length;
     }
 

@@ -1,11 +1,20 @@
-use Rattle.std.proofs.Common.{arith}
+use Rattle.std.proofs.Common.{◌≡◌, get_or, refl, sym, ◌∙◌, arith}
+use Rattle.graph.specs.Layers.{joins}
+use Rattle.network.specs.File.{graph_of}
+use Rattle.network.specs.Groups.{group_of}
 use Rattle.layering.proofs.Times.{taken-begins, taken_next}
 use Rattle.layering.proofs.takes.take_edges.Goals as goal
+use Rattle.layering.proofs.takes.take_edges.Goals.{then-is_between, else-is_between}
 
-pub loop-i-init : goal.loop-i-init
-loop-i-init c = taken-begins _ _
+pub loop-edge-init : goal.loop-edge-init
+loop-edge-init c = taken-begins _ _
 
-pub loop-i-preserved : goal.loop-i-preserved
-loop-i-preserved c =
-    taken_next c.args.edges.now c.loop-i.invariant (omega (arith, c.requires.lists c.loop-i.i c.loop-i-test.true))
-    (rw c.wide16.ensures.0 at c.take_edge.ensures)
+pub loop-edge-preserved : goal.loop-edge-preserved
+loop-edge-preserved c =
+    let joined : c.is_between.result ≡ joins (graph_of c.args.file.now) (group_of c.args.s.now) (group_of c.args.t.now) (get_or c.args.edges.now c.loop-edge.edge-index 0) =
+    rw c.from-edge.ensures at c.is_between.ensures in
+    taken_next c.args.edges.now c.loop-edge.invariant (omega (arith, c.requires.lists c.loop-edge.edge-index c.loop-edge-test.true))
+    (elim c.if-is_between.branch [
+      | then-is_between w ↦ w.layers-is ∙ rw (c.from-edge.ensures, sym joined ∙ w.if-is_between.true) refl
+      | else-is_between w ↦ w.layers-is ∙ rw (sym joined ∙ w.if-is_between.false) refl
+    ])

@@ -21,4 +21,4 @@ pub pass_first-requires-clause-in_total : goal.pass_first-requires-clause-in_tot
 pass_first-requires-clause-in_total c = first-enough c.requires.peeling c.requires.waits
 
 pub lower_row-requires-clause-dropping : goal.lower_row-requires-clause-dropping
-lower_row-requires-clause-dropping c = rw c.pass_first.ensures (drop-begins c.requires.peeling c.requires.waits (rw c.queue_at.ensures at c.wide16-place.ensures.0))
+lower_row-requires-clause-dropping c = rw c.pass_first.ensures (drop-begins c.requires.peeling c.requires.waits (rw c.queue_at.ensures at c.from-place.ensures))

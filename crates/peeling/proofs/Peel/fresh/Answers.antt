@@ -1,4 +1,5 @@
 -- `fresh` makes the peel of the whole graph: with the degrees filled in, the table holds the peel that has not begun.
+use Rattle.std.proofs.Common.{arith}
 use Rattle.peeling.proofs.Tables.{start_first}
 use Rattle.peeling.proofs.Kept.{rows-kept}
 use Rattle.peeling.proofs.Totals.{held_rows}
@@ -10,4 +11,4 @@ overflow_sub-work c = start_first (rows-kept (held_rows c.requires.held) c.fill_
 
 pub returns-clause-peeling : goal.returns-clause-peeling
 returns-clause-peeling c =
-    whole-peel c.requires.held c.fill_degrees.ensures.kept c.fill_degrees.ensures.degrees c.wide16-edges.ensures
+    whole-peel c.requires.held c.fill_degrees.ensures.kept c.fill_degrees.ensures.degrees (c.from-edges.ensures, omega (arith, c.type_inv.work c.args.scope.order))

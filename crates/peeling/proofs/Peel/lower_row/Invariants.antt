@@ -1,6 +1,5 @@
 -- `lower_row` lowers each place of the row of a place that the head has passed. The loop's invariant: the drop has come as far as the entries
--- passed. The measure is the number of entries left.
-use Rattle.std.proofs.Common.{◌-◌}
+-- passed.
 use Rattle.peeling.specs.Peeling.{need_of}
 use Rattle.peeling.proofs.Passes.{Passing}
 use Rattle.peeling.proofs.Peel.lower_row.Given as goal
@@ -8,6 +7,3 @@ use Rattle.peeling.proofs.Peel.lower_row.Given as goal
 abbrev pub invariant-loop-k : goal.invariant-loop-k
 invariant-loop-k l =
     Passing l.scope.order l.scope.size (need_of l.scope) l.initial.work l.initial.peel l.place l.initial.k l.end l.work l.peel l.k
-
-abbrev pub decreases-loop-k : goal.decreases-loop-k
-decreases-loop-k l = l.end - l.k

@@ -1,10 +1,42 @@
-use Rattle.std.proofs.Common.{arith}
-use Rattle.peeling.proofs.Kept.{rows-kept}
-use Rattle.peeling.proofs.Whole.{filled_next}
+-- The degrees stand behind the rows, and no other entry is written to.
+use Rattle.std.proofs.Common.{ℕ, ◌≡◌, ◌+◌, ◌*◌, ◌<◌, ◌≤◌, List, ◌++◌, length, get_or, take, drop, sym, ◌∙◌, ap, rules, arith}
+use Rattle.std.proofs.lemmas.List.{places, length-take-le}
+use Rattle.std.proofs.lemmas.Slice.{drop-put_mid}
+use Rattle.network.specs.Refusals.{work_length}
+use Rattle.peeling.specs.Peeling.{Kept, degree_of, row_length}
 use Rattle.peeling.proofs.peels.fill_degrees.Goals as goal
 
-pub fill_degree-requires-clause-rows : goal.fill_degree-requires-clause-rows
-fill_degree-requires-clause-rows c = rows-kept c.requires.rows c.loop-place.invariant.kept
+module _ (n m at : ℕ) (w a b d : List ℕ) (long : work_length n m ≤ length w) (p : at ≡ 2 * n + 1 + 2 * m) (f : a ≡ take at w) (g : b ≡ drop at w) (s : length d ≡ 2 * n) where
+  filled-length : length (a ++ (d ++ drop (2 * n) b)) ≡ length w
+  filled-length = rw (f, g) (search (rules, places))
 
-pub loop-place-preserved : goal.loop-place-preserved
-loop-place-preserved c = filled_next _ c.requires.rows c.loop-place.invariant (omega arith) c.fill_degree.ensures
+  filled-front : (i : ℕ) → i < at → get_or (a ++ (d ++ drop (2 * n) b)) i 0 ≡ get_or w i 0
+  filled-front i h = rw (f, g) (search (rules, places))
+
+  filled-past : drop (work_length n m) (a ++ (d ++ drop (2 * n) b)) ≡ drop (work_length n m) w
+  filled-past = rw (f, g) (drop-put_mid at (2 * n) w d (work_length n m) (omega arith) (omega arith) s)
+
+  filled-degree : (i : ℕ) → i < 2 * n → get_or (a ++ (d ++ drop (2 * n) b)) (at + i) 0 ≡ get_or d i 0
+  filled-degree i h = rw (f, g) (search (rules, places))
+
+  row-same : (i : ℕ) → i < 2 * n → row_length a i ≡ row_length w i
+  row-same i h = rw f (search (rules, places))
+
+  filled-kept : Kept n m w (a ++ (d ++ drop (2 * n) b))
+  filled-kept = record { same_length = filled-length; index = λ i h. filled-front i (omega arith); past = filled-past }
+
+  filled-row : (i : ℕ) → i < 2 * n → get_or d i 0 ≡ row_length a i → degree_of n m (a ++ (d ++ drop (2 * n) b)) i ≡ row_length w i
+  filled-row i h e = ap (λ t. get_or (a ++ (d ++ drop (2 * n) b)) (t + i) 0) (sym p) ∙ filled-degree i h ∙ e ∙ row-same i h
+
+pub returns-clause-kept : goal.returns-clause-kept
+returns-clause-kept c =
+    let split = c.split_at_mut-starts.ensures in
+    let size : length c.loop-place.degree-items ≡ 2 * c.args.scope.order = omega (arith, length-take-le (2 * c.args.scope.order) c.split_at_mut-starts.result.1.now) in
+    filled-kept _ _ _ _ _ _ _ c.requires.rows.long c.degrees_at.ensures split.front split.back size
+
+pub returns-clause-degrees : goal.returns-clause-degrees
+returns-clause-degrees c p h =
+    let split = c.split_at_mut-starts.ensures in
+    let size : length c.loop-place.degree-items ≡ 2 * c.args.scope.order = omega (arith, length-take-le (2 * c.args.scope.order) c.split_at_mut-starts.result.1.now) in
+    filled-row _ _ _ _ _ _ _ c.requires.rows.long c.degrees_at.ensures split.front split.back size p h
+    (c.loop-place.invariant p (omega (arith, length-take-le (2 * c.args.scope.order) c.split_at_mut-starts.result.1.now)))

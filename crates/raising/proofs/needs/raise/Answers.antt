@@ -9,18 +9,18 @@ put-requires-clause-in_queue c = queue-most c.requires.peeling.queued.queue
 
 pub grown-requires-clause-pushable : goal.grown-requires-clause-pushable
 grown-requires-clause-pushable c =
-    raise-pushable c.args.next c.requires.order c.requires.more c.requires.side c.requires.on_side c.requires.peeling (rw c.degrees_at.ensures at c.wide16-degree.ensures.0) (cc)
+    raise-pushable c.args.next c.requires.order c.requires.more c.requires.side c.requires.on_side c.requires.peeling (rw c.degrees_at.ensures at c.from-degree.ensures) (cc)
 
 pub returns-then-is_between-clause-peeling : goal.returns-then-is_between-clause-peeling
 returns-then-is_between-clause-peeling c =
-    rw (c.grown.ensures, c.put.ensures) (raise-grows c.args.next c.requires.order c.requires.more c.requires.side c.requires.on_side c.requires.peeling (rw c.degrees_at.ensures at c.wide16-degree.ensures.0) (cc))
+    rw (c.grown.ensures, c.put.ensures) (raise-grows c.args.next c.requires.order c.requires.more c.requires.side c.requires.on_side c.requires.peeling (rw c.degrees_at.ensures at c.from-degree.ensures) (cc))
 
 pub returns-then-is_between-clause-kept : goal.returns-then-is_between-clause-kept
 returns-then-is_between-clause-kept c = rw c.put.ensures (peel-put c.args.place c.requires.peeling).1
 
 pub returns-else-is_between-clause-peeling : goal.returns-else-is_between-clause-peeling
 returns-else-is_between-clause-peeling c =
-    rw c.put.ensures (raise-passes c.args.next c.requires.order c.requires.more c.requires.side c.requires.on_side c.requires.peeling (rw c.degrees_at.ensures at c.wide16-degree.ensures.0) (cc))
+    rw c.put.ensures (raise-passes c.args.next c.requires.order c.requires.more c.requires.side c.requires.on_side c.requires.peeling (rw c.degrees_at.ensures at c.from-degree.ensures) (cc))
 
 pub returns-else-is_between-clause-kept : goal.returns-else-is_between-clause-kept
 returns-else-is_between-clause-kept c = rw c.put.ensures (peel-put c.args.place c.requires.peeling).1

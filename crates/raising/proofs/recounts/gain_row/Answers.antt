@@ -10,15 +10,15 @@ bounds-work-k c = gain-inside c.requires.rows c.requires.is_place c.loop-k.invar
 
 pub gain-requires-clause-is_place : goal.gain-requires-clause-is_place
 gain-requires-clause-is_place c =
-    gain-place c.requires.rows c.requires.is_place c.loop-k.invariant c.loop-k-test.true c.wide16-other.ensures.0
+    gain-place c.requires.rows c.requires.is_place c.loop-k.invariant c.loop-k-test.true c.from-other.ensures
 
 pub gain-requires-clause-room : goal.gain-requires-clause-room
 gain-requires-clause-room c =
-    gain-room c.requires.rows c.requires.is_place c.loop-k.invariant c.loop-k-test.true c.wide16-other.ensures.0 c.requires.roomy
+    gain-room c.requires.rows c.requires.is_place c.loop-k.invariant c.loop-k-test.true c.from-other.ensures c.requires.roomy
 
 pub loop-k-preserved : goal.loop-k-preserved
 loop-k-preserved c =
-    gain-next c.requires.rows c.requires.is_place c.loop-k.invariant c.loop-k-test.true c.wide16-other.ensures.0 c.gain.ensures
+    gain-next c.requires.rows c.requires.is_place c.loop-k.invariant c.loop-k-test.true c.from-other.ensures c.gain.ensures
 
 pub returns : goal.returns
 returns c = gain-ends c.requires.rows c.requires.is_place c.loop-k.invariant c.loop-k-test.false

@@ -1,25 +1,30 @@
-use Rattle.std.proofs.Common.{◌≡◌, arith}
+use Rattle.std.proofs.Common.{◌≡◌, ◌+◌, ◌-◌, arith}
 use Rattle.peeling.proofs.Kept.{rows-kept}
 use Rattle.peeling.proofs.Totals.{held_rows, held_kept}
 use Rattle.raising.proofs.Counts.{recount-begins, recount-room, recount-next, recount-from}
 use Rattle.raising.proofs.recounts.recount.Goals as goal
 
-pub loop-i-init : goal.loop-i-init
-loop-i-init c = recount-begins c.requires.side c.clear_other.ensures
+pub loop-place-init : goal.loop-place-init
+loop-place-init c = let z : c.args.first - c.args.first ≡ 0 = omega arith in rw z (recount-begins c.requires.side c.clear_other.ensures)
 
 pub recount_place-requires-clause-rows : goal.recount_place-requires-clause-rows
 recount_place-requires-clause-rows c =
-    rows-kept (held_rows (held_kept c.requires.held c.clear_other.ensures.recounting.kept)) c.loop-i.invariant.recounting.kept
+    rows-kept (held_rows (held_kept c.requires.held c.clear_other.ensures.recounting.kept)) c.loop-place.invariant.recounting.kept
 
 pub recount_place-requires-clause-roomy : goal.recount_place-requires-clause-roomy
 recount_place-requires-clause-roomy c =
-    recount-room (held_kept c.requires.held c.clear_other.ensures.recounting.kept).tabled c.requires.side (omega arith) c.loop-i.invariant c.requires.small
+    let e : c.args.first + (c.loop-place.place - c.args.first) ≡ c.loop-place.place = omega arith in
+    rw e
+    at (recount-room (held_kept c.requires.held c.clear_other.ensures.recounting.kept).tabled c.requires.side (omega arith) c.loop-place.invariant c.requires.small)
 
-pub loop-i-preserved : goal.loop-i-preserved
-loop-i-preserved c =
-    recount-next (held_kept c.requires.held c.clear_other.ensures.recounting.kept).tabled c.requires.side (omega arith) c.loop-i.invariant c.recount_place.ensures
+pub loop-place-preserved : goal.loop-place-preserved
+loop-place-preserved c =
+    let e : c.args.first + (c.loop-place.place - c.args.first) ≡ c.loop-place.place = omega arith in
+    let z : c.loop-place.place + 1 - c.args.first ≡ c.loop-place.place - c.args.first + 1 = omega arith in
+    rw z
+    (recount-next (held_kept c.requires.held c.clear_other.ensures.recounting.kept).tabled c.requires.side (omega arith) c.loop-place.invariant (rw e c.recount_place.ensures))
 
 pub returns : goal.returns
 returns c =
-    let e : c.loop-i.i ≡ c.args.scope.order = omega arith in
-    recount-from c.requires.held.tabled c.requires.side (omega arith) c.clear_other.ensures (rw e at c.loop-i.invariant)
+    let e : c.loop-place.place - c.args.first ≡ c.args.scope.order = omega (arith, c.loop-place.auto.place-end (omega arith)) in
+    recount-from c.requires.held.tabled c.requires.side (omega arith) c.clear_other.ensures (rw e at c.loop-place.invariant)

@@ -1,11 +1,13 @@
--- `put_refusal` meets its contract: the number, the link and the line's end are laid in a row, and no such line is longer than the buffer.
-use Rattle.std.proofs.Common.{arith}
-use Rattle.report.specs.Text.{refusal_text}
-use Rattle.report.proofs.Puts.{put_then, put_first}
+-- `put_refusal` meets its contract: no line is longer than the buffer.
+use Rattle.std.proofs.Common.{None, ap, length, arith, length-append}
+use Rattle.report.proofs.Lengths.{refusal_room}
 use Rattle.report.proofs.refusals.put_refusal.Goals as goal
 
-pub returns : goal.returns
-unfolding refusal_text
-returns c =
-    let number = rw c.wide16.ensures.0 at c.put_label-number.ensures in
-    put_first (put_then (omega arith) (put_then (omega arith) number c.put_link-link.ensures) c.put_bytes.ensures)
+pub put_label-requires : goal.put_label-requires
+put_label-requires c = (omega arith, omega (arith, ap length c.new-line.ensures, refusal_room c.from.result None (omega (arith, c.from.ensures, c.number.type_inv)) tt))
+
+pub push_str-requires : goal.push_str-requires
+push_str-requires c =
+    let number = simp length-append at (ap length c.put_label.ensures) in
+    let link = simp length-append at (ap length c.put_link.ensures) in
+    (omega arith, omega (arith, ap length c.new-line.ensures, number, link, refusal_room c.from.result c.link.result (omega (arith, c.from.ensures, c.number.type_inv)) c.link.ensures.fits))

@@ -1,11 +1,18 @@
--- `put_report` meets its contract: the numbers and the two groups are laid in a row, and no report is longer than the buffer.
-use Rattle.std.proofs.Common.{arith}
-use Rattle.report.specs.Text.{report_text}
-use Rattle.report.proofs.Puts.{put_then, put_first}
+-- `put_report` meets its contract: no report is longer than the buffer.
+use Rattle.std.proofs.Common.{◌≤◌, ap, length, arith, length-append}
+use Rattle.report.specs.Text.{ascii}
+use Rattle.report.proofs.Lengths.{numbers_longest, group_longest}
 use Rattle.report.proofs.reports.put_report.Goals as goal
 
-pub returns : goal.returns
-unfolding report_text
-returns c =
-    let s = put_then (omega arith) c.put_numbers-first.ensures c.put_group-second.ensures in
-    put_first (put_then (omega arith) s c.put_group.ensures)
+pub put_group-requires-2 : goal.put_group-requires-2
+put_group-requires-2 c =
+    let k = c.args.numbers in
+    let n = c.args.n in
+    let empty = ap length c.new-report.ensures in
+    let first = simp length-append at (ap length c.put_numbers.ensures) in
+    let second = simp length-append at (ap length c.put_group.ensures) in
+    let numbers = numbers_longest k (omega arith) (omega arith) (omega arith) (omega arith) (omega arith) (omega arith) in
+    let small : n ≤ 10000 = omega arith in
+    let sources = group_longest (ascii "S") c.args.s.now n small in
+    let targets = group_longest (ascii "T") c.args.t.now n small in
+    (omega arith, (omega arith, omega arith))

@@ -7,17 +7,17 @@ use Rattle.searching.proofs.Rings.{quiet-found, ring-found}
 use Rattle.searching.proofs.searches.find_in.Goals as goal
 
 pub core_in-totals-requires-clause-held : goal.core_in-totals-requires-clause-held
-core_in-totals-requires-clause-held c = held_kept c.requires.held c.climb-equal.ensures.kept
+core_in-totals-requires-clause-held c = rw c.of.ensures (held_kept c.requires.held c.climb-equal.ensures.kept)
 
 pub returns-then-equal-eq0 : goal.returns-then-equal-eq0
-returns-then-equal-eq0 c = quiet-found c.climb-equal.ensures c.if-equal-eq0.true (omega arith) (omega arith) c.core_in-totals.ensures
+returns-then-equal-eq0 c = quiet-found c.climb-equal.ensures c.if-equal-eq0.true (omega arith) (omega arith) (rw c.of.ensures at c.core_in-totals.ensures)
 
 pub search-best-requires-clause-held : goal.search-best-requires-clause-held
 search-best-requires-clause-held c = held_kept c.requires.held c.climb-equal.ensures.kept
 
 pub core_in-totals-requires-2-clause-held : goal.core_in-totals-requires-2-clause-held
 core_in-totals-requires-2-clause-held c =
-    held_kept c.requires.held (kept_next c.climb-equal.ensures.kept c.search-best.ensures.kept)
+    rw c.of-2.ensures (held_kept c.requires.held (kept_next c.climb-equal.ensures.kept c.search-best.ensures.kept))
 
 pub returns : goal.returns
-returns c = ring-found c.climb-equal.ensures (omega arith) c.search-best.ensures c.core_in-totals-2.ensures
+returns c = ring-found c.climb-equal.ensures (omega arith) c.search-best.ensures (rw c.of-2.ensures at c.core_in-totals-2.ensures)

@@ -11,14 +11,14 @@ invariant-loop-fixed l =
     record {
       positive : 1 ≤ l.fixed;
       within : l.fixed ≤ l.k;
-      searching : Searching l.order l.size l.k l.fn.work l.work l.side (down_tried l.k l.fixed) l.best;
+      searching : Searching l.extent.order l.extent.size l.k l.fn.work l.work l.side (down_tried l.k l.fixed) l.best;
     }
 
 abbrev pub decreases-loop-fixed : goal.decreases-loop-fixed
 decreases-loop-fixed l = l.fixed
 
 abbrev pub invariant-search : goal.invariant-search
-invariant-search l = Searching l.order l.size l.k l.fn.work l.work l.side none_tried l.best
+invariant-search l = Searching l.extent.order l.extent.size l.k l.fn.work l.work l.side none_tried l.best
 
 abbrev pub decreases-search : goal.decreases-search
 decreases-search l = sides_left l.side
