@@ -25,10 +25,6 @@ use Rattle.graph.proofs.Ranges.{first_passes, first-before, length-table, get_or
 use Rattle.graph.proofs.Order.{lexicographic-same, precedes-strict, rank_lt, nth-rank}
 use Rattle.adjacency.specs.Neighbours.{joins, adjacent}
 
--- the rest counts only for equal numbers
-lexicographic-ext : (a b : ℕ) {r s : Bool} → (a ≡ b → r ≡ s) → lexicographic a b r ≡ lexicographic a b s
-lexicographic-ext a b h = elim (ℕ_discrete a b) [ yes e ↦ rw (h e) | no e ↦ rw (ne_eqb a b e) ]
-
 -- with a rest that fails the order is strict
 lexicographic-false : (a b : ℕ) → lexicographic a b false ≡ ltb a b
 lexicographic-false a b = grind (arith, nat_tests)

@@ -1,4 +1,4 @@
-// A row of the index is a part of the lent table, not a copy.
+// A row of the index is a part of the lent table, not a copy. 01 and C name the tables one by one, and so they stay parameters.
 ghost use Rattle.std.specs.Prelude.{◌≡◌, ◌+◌, Some, IfOk, IfErr, get_or};
 ghost use Rattle.network.specs.Refusals.{row_refusal};
 ghost use Rattle.adjacency.specs.Calls.{RowCall, by_side};

@@ -1,7 +1,6 @@
 -- A file is its header and its edges as they stand. So one whose edges ascend is written byte for byte as it is, and zero bytes as the header of
 -- a file with no vertex and no edge; and two whose edges ascend hold the same links exactly when their bytes are equal.
 use Prim.Native.Nat.{ℕ, zero, suc, ◌+◌, ◌/◌, ◌%◌, ◌<◌, ◌≤◌}
-use mathlib.Core.Bool.{true}
 use mathlib.Core.List.{List, [], ◌∷◌, ◌++◌, append_assoc, append-nil}
 use mathlib.Core.Path.{◌≡◌, refl, sym, ap, ◌∙◌}
 use native.Mathlib.Numerals.{add-one}
@@ -14,7 +13,7 @@ use Rattle.graph.specs.Graph.{Graph, SameLinks}
 use Rattle.graph.specs.Order.{Ascending}
 use Rattle.graph.proofs.Ranges.{flat-ext}
 use Rattle.graph.proofs.Ascending.{ascending-edge_at, Alike, ascending-alike}
-use Rattle.network.specs.File.{u16_at, link_at, graph_of, mark, marked}
+use Rattle.network.specs.File.{u16_at, link_at, graph_of}
 use Rattle.network.specs.Bytes.{u16, header, edge_bytes, written}
 use Rattle.network.specs.Accepted.{Headed}
 use Rattle.network.proofs.Accepted.{accepted}
@@ -23,10 +22,6 @@ use Rattle.calls.specs.Calls.{Filed, OneOrder}
 -- the file with its edges as they stand
 abbrev standing : Graph → List ℕ
 standing g = header g.order g.size ++ flat (λ e. edge_bytes (g.source e) (g.target e)) g.size
-
--- the mark, before what comes after it
-mark-front : (f : List ℕ) → 9 ≤ length f → marked mark f ≡ true → 0x56 ∷ 0x43 ∷ 0x48 ∷ drop 3 f ≡ f
-mark-front f l h = grind (arith, nat_tests)
 
 module _ (f : List ℕ) (bytes : (i : ℕ) → get_or f i 0 < 256) where
   -- a number's two bytes, before what comes after them

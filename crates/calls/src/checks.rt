@@ -8,9 +8,9 @@ use network::{Extent, Refusal, order_of, size_of};
 pub fn check(file: &[u8]) -> Result<Extent, Refusal>
     ensures { CheckCall file.now result }
 {
-    check_file(file)?;
+    let file = check_file(file)?;
     Ok(Extent {
-        order: order_of(file),
-        size: size_of(file),
+        order: order_of(file.bytes),
+        size: size_of(file.bytes),
     })
 }

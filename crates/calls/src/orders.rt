@@ -5,37 +5,36 @@ ghost use Rattle.graph.specs.Order.{precedes};
 ghost use Rattle.graph.specs.Sorting.{Sorted};
 ghost use Rattle.network.specs.File.{link_at, graph_of};
 ghost use Rattle.network.specs.Bytes.{edges_bytes, written};
-ghost use Rattle.network.specs.Accepted.{Sound};
 ghost use Rattle.calls.specs.Calls.{OrderCall};
 
 use crate::writes::write_accepted;
-use checking::{check_old, is_accepted};
+use checking::{accept, check_old};
 use network::{
-    MOST_LINKS, Refusal, Side, end_at, link_at, order_of, put_edge, put_header, size_of,
+    MOST_LINKS, Refusal, Side, SoundFile, end_at, link_at, order_of, put_edge, put_header, size_of,
 };
 
 // Every edge, in the order given.
-fn put_edges(file: &[u8], order: &[u16], out: &mut [u8])
-    requires sound { Sound file.now }
-    requires room { ((graph_of file.now).size ≤ length order.now) × (link_at (graph_of file.now).size ≤ length out.old) }
-    requires sorted { Sorted (precedes (graph_of file.now)) (graph_of file.now).size order.now }
-    ensures { out.new ≡ sets out.old 9 (edges_bytes (graph_of file.now)) }
+fn put_edges(file: &SoundFile, order: &[u16], out: &mut [u8])
+    requires length { length order.now ≡ (graph_of file.now.bytes.now).size }
+    requires room { link_at (graph_of file.now.bytes.now).size ≤ length out.old }
+    requires sorted { Sorted (precedes (graph_of file.now.bytes.now)) (graph_of file.now.bytes.now).size order.now }
+    ensures { out.new ≡ sets out.old 9 (edges_bytes (graph_of file.now.bytes.now)) }
 {
-    for (i, edge) in order[0..size_of(file)].iter().enumerate() {
-        let source = end_at(file, Side::Source, usize::from(*edge));
-        let target = end_at(file, Side::Target, usize::from(*edge));
-        put_edge(out, link_at(i), source, target);
+    for (i, edge) in order.iter().enumerate() {
+        let source = end_at(file.bytes, Side::Source, usize::from(*edge));
+        let target = end_at(file.bytes, Side::Target, usize::from(*edge));
+        put_edge(out, link_at(i), source as u16, target as u16);
     }
 }
 
 // The file written in the order given.
-fn put_file(file: &[u8], order: &[u16], out: &mut [u8])
-    requires sound { Sound file.now }
-    requires room { ((graph_of file.now).size ≤ length order.now) × (link_at (graph_of file.now).size ≤ length out.old) }
-    requires sorted { Sorted (precedes (graph_of file.now)) (graph_of file.now).size order.now }
-    ensures { out.new ≡ sets out.old 0 (written (graph_of file.now)) }
+fn put_file(file: &SoundFile, order: &[u16], out: &mut [u8])
+    requires length { length order.now ≡ (graph_of file.now.bytes.now).size }
+    requires room { link_at (graph_of file.now.bytes.now).size ≤ length out.old }
+    requires sorted { Sorted (precedes (graph_of file.now.bytes.now)) (graph_of file.now.bytes.now).size order.now }
+    ensures { out.new ≡ sets out.old 0 (written (graph_of file.now.bytes.now)) }
 {
-    put_header(out, order_of(file), size_of(file));
+    put_header(out, order_of(file.bytes) as u16, size_of(file.bytes) as u16);
     put_edges(file, order, out);
 }
 
@@ -44,12 +43,12 @@ fn sort_file(file: &[u8], out: &mut [u8]) -> Result<usize, Refusal>
     ensures { OrderCall file.now out.old out.new result }
 {
     let mut sorted = [0u16; MOST_LINKS];
-    check_old(file, &mut sorted)?;
-    let size = size_of(file);
+    let file = check_old(file, &mut sorted)?;
+    let size = size_of(file.bytes);
     if out.len() < link_at(size) {
         return Err(Refusal::Table);
     }
-    put_file(file, &sorted, out);
+    put_file(&file, &sorted[0..size], out);
     Ok(size)
 }
 
@@ -57,8 +56,8 @@ fn sort_file(file: &[u8], out: &mut [u8]) -> Result<usize, Refusal>
 pub fn order(file: &[u8], out: &mut [u8]) -> Result<usize, Refusal>
     ensures { OrderCall file.now out.old out.new result }
 {
-    if is_accepted(file) {
-        return write_accepted(file, out);
+    match accept(file) {
+        Some(file) => write_accepted(&file, out),
+        None => sort_file(file, out),
     }
-    sort_file(file, out)
 }

@@ -4,5 +4,5 @@
 mod checks;
 mod groups;
 
-pub use checks::{check_file, check_old, is_accepted};
+pub use checks::{accept, check_file, check_old};
 pub use groups::are_groups;

@@ -1,19 +1,19 @@
 -- What a climb asks of places: as k is raised, more of those on the sides that rise, and as much of the others. What has somebody on both sides
 -- has a place that rises.
 use Prim.Native.Nat.{ℕ, ◌+◌, ◌*◌, ◌<◌, ◌≤◌}
-use mathlib.Core.Bool.{Bool, true, false, cond, false≢true}
+use mathlib.Core.Bool.{true, false, false≢true}
 use mathlib.Core.Path.{◌≡◌, refl, sym}
 use native.Mathlib.Omega.{arith}
-use borrow.Author.Tests.{leb-true, leb-false, le-leb, lt-leb, lt-ltb, le-ltb}
-use lib.Dec.{ltb}
+use borrow.Author.Tests.{leb-false, le-leb, lt-leb, lt-ltb, le-ltb}
+use Rattle.std.proofs.lemmas.Bool.Decides.{nat_tests}
 use Rattle.graph.specs.Range.{sum, if}
 use Rattle.graph.specs.Graph.{Group}
+use Rattle.graph.specs.Cover.{need}
 use Rattle.graph.proofs.Tests.{if_some}
 use Rattle.graph.proofs.Sums.{sum-some}
-use Rattle.peeling.specs.Peeling.{need_of}
 use Rattle.climbing.specs.declared.Rise.{Rise}
 use Rattle.climbing.specs.declared.Rise.TheVariants.{Targets, Sources, Both}
-use Rattle.climbing.specs.Climbs.{asked, rising, first_rising, end_rising}
+use Rattle.climbing.specs.Climbs.{of_sources, of_targets, rising, first_rising, end_rising}
 
 -- where R has somebody on both sides, a place of it rises
 pub rising-some : (n : ℕ) (rise : Rise) (R : Group) → 1 ≤ sum (λ u. if (R u) 1) n → 1 ≤ sum (λ v. if (R (n + v)) 1) n
@@ -55,19 +55,18 @@ rising-past n Targets p l h = absurd (omega arith)
 rising-past n Sources p l h = le-ltb _ n l
 rising-past n Both p l h = absurd (omega arith)
 
+-- what a place needs at k
+abbrev pub need_at : ℕ → Rise → ℕ → ℕ → ℕ → ℕ
+need_at n rise fixed k = need n (of_sources rise fixed k) (of_targets rise fixed k)
+
 -- a place that rises needs k
-pub asked-rising : (n m : ℕ) (rise : Rise) (fixed k p : ℕ) → rising n rise p ≡ true → need_of (asked n m rise fixed k) p ≡ k
-asked-rising n m Targets fixed k p h = rw (le-ltb p n (leb-true n p h))
-asked-rising n m Sources fixed k p h = rw h
-asked-rising n m Both fixed k p h = either (ltb p n) k
-  where
-    either : (b : Bool) (k : ℕ) → cond b k k ≡ k
-    either true k = refl
-    either false k = refl
+pub asked-rising : (n : ℕ) (rise : Rise) (fixed k p : ℕ) → rising n rise p ≡ true → need_at n rise fixed k p ≡ k
+asked-rising n Targets fixed k p h = grind (arith, nat_tests)
+asked-rising n Sources fixed k p h = rw h
+asked-rising n Both fixed k p h = grind (arith, nat_tests)
 
 -- one that does not needs as much at every k
-pub asked-still : (n m : ℕ) (rise : Rise) (fixed k k' p : ℕ) → rising n rise p ≡ false
-    → need_of (asked n m rise fixed k) p ≡ need_of (asked n m rise fixed k') p
-asked-still n m Targets fixed k k' p h = rw (lt-ltb p n (leb-false n p h))
-asked-still n m Sources fixed k k' p h = rw h
-asked-still n m Both fixed k k' p h = absurd (false≢true (sym h))
+pub asked-still : (n : ℕ) (rise : Rise) (fixed k k' p : ℕ) → rising n rise p ≡ false → need_at n rise fixed k p ≡ need_at n rise fixed k' p
+asked-still n Targets fixed k k' p h = rw (lt-ltb p n (leb-false n p h))
+asked-still n Sources fixed k k' p h = rw h
+asked-still n Both fixed k k' p h = absurd (false≢true (sym h))

@@ -2,14 +2,14 @@
 use Prim.Native.Nat.{ℕ, ◌+◌, ◌-◌, ◌<◌, ◌≤◌}
 use mathlib.Core.Bool.{Bool, true, false, cond, ◌&&◌, false≢true}
 use mathlib.Core.Path.{◌≡◌, refl, sym, ◌∙◌}
-use native.Mathlib.Decide.{dec_le, dec_lt}
-use native.Mathlib.Nat.{le_refl}
+use native.Mathlib.Decide.{dec_lt}
 use native.Mathlib.Omega.{arith}
 use borrow.Author.Count.{below_more}
-use borrow.Author.Tests.{ltb-true, le-leb, lt-ltb}
+use Rattle.std.proofs.lemmas.Bool.Decides.{nat_tests}
+use borrow.Author.Tests.{le-leb}
 use lib.Dec.{leb, ltb}
 use Rattle.graph.specs.Graph.{Group}
-use Rattle.graph.proofs.Tests.{and_left, and_right, and_both}
+use Rattle.graph.proofs.Tests.{and_both}
 use Rattle.climbing.specs.Climbs.{Some, Least}
 
 -- k is the least over the numbers below i that pass, or 65535 where none does
@@ -33,29 +33,20 @@ lowest-skips {Q = Q} {i = i} {j} l same none o =
     }
   where
     early : (p : ℕ) → p < j → Q p ≡ true → p < i
-    early p b h = elim (dec_lt p i) [ yes m ↦ m | no m ↦ absurd (false≢true (sym (none p (omega arith) b) ∙ h)) ]
+    early p b h = grind (arith, none p)
 
 -- the next number counts where it passes and is less
 pub lowest-next : {P : Group} {d : ℕ → ℕ} {i k k' : ℕ} → Lowest P d i k → d i < 65536 → k' ≡ cond (P i && ltb (d i) k) (d i) k → Lowest P d (i + 1) k'
-lowest-next {P} {d} {i} {k} o l e = rw e (go (P i && ltb (d i) k) refl)
+lowest-next {P} {d} {i} {k} {k'} o l e =
+    record {
+      small = below_more _ _ o.small (λ q. l);
+      low = below_more _ _ (λ p m q. grind (arith, nat_tests, o.low p m q)) (λ q. grind (arith, nat_tests));
+      reached = go (P i && ltb (d i) k) refl;
+    }
   where
-    all : (p : ℕ) → p < i + 1 → P p ≡ true → d p < 65536
-    all = below_more _ _ o.small (λ q. l)
-
-    go : (b : Bool) → (P i && ltb (d i) k) ≡ b → Lowest P d (i + 1) (cond b (d i) k)
-    go true h =
-        let less : d i < k = ltb-true (d i) k (and_right (P i) _ h) in
-        record {
-          small = all;
-          low = below_more _ _ (λ p m q. omega (arith, o.low p m q)) (λ q. le_refl (d i));
-          reached = λ m. record { number = i; below = omega arith; passes = and_both (and_left (P i) _ h) (le-leb (d i) (d i) (le_refl (d i))) };
-        }
-    go false h =
-        record {
-          small = all;
-          low = below_more _ _ o.low (λ q. elim (dec_le k (d i)) [ yes m ↦ m | no m ↦ absurd (false≢true (sym h ∙ and_both q (lt-ltb (d i) k (omega arith)))) ]);
-          reached = λ m. let s = o.reached m in record { number = s.number; below = omega (arith, s.below); passes = s.passes };
-        }
+    go : (b : Bool) → (P i && ltb (d i) k) ≡ b → k' < 65535 → Some (λ p. P p && leb (d p) k') (i + 1)
+    go true h m = record { number = i; below = omega arith; passes = grind (arith, nat_tests) }
+    go false h m = let s = o.reached (grind arith) in record { number = s.number; below = omega (arith, s.below); passes = grind (arith, nat_tests, s.passes) }
 
 -- what is found among numbers in a row from f on, counted from there, is found below the last of them where none before f passes
 pub lowest-shift : {P Q : Group} {d e : ℕ → ℕ} {n k : ℕ} (f : ℕ) → ((i : ℕ) → i < n → Q (f + i) ≡ P i) → ((i : ℕ) → i < n → e (f + i) ≡ d i)

@@ -31,7 +31,7 @@ row-most {g} {w = w} i R p l =
 -- so where no row of the places that rise is as long as k, the core asked for at k is empty
 pub longest-stops : {n m : ℕ} (rise : Rise) (fixed k : ℕ) {w : List ℕ} {r : ℕ} → Longest (rising n rise) w (2 * n) r → r < k
     → {g : Graph} → Tabled g n m w → ¬ Reached g rise fixed k
-longest-stops {m = m} rise fixed k most s {g} t h =
+longest-stops rise fixed k most s {g} t h =
     let R = places g h.S h.T in
     let sources = rw (card-same g (places-source g h.S h.T)) at h.some in
     let targets = rw (card-same g (places-target g h.S h.T)) at h.other in
@@ -39,7 +39,7 @@ longest-stops {m = m} rise fixed k most s {g} t h =
     omega (
       arith,
       (dense-settled t.closed h.core.dense).enough p l inside,
-      asked-rising g.order m rise fixed k p up,
+      asked-rising g.order rise fixed k p up,
       row-most t.indexed R p l,
       most.all p (omega (arith, t.order)) (rw (← t.order) up),
     )

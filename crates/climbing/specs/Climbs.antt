@@ -2,6 +2,7 @@
 use Rattle.std.specs.Prelude.{ℕ, ◌+◌, ◌*◌, ◌<◌, ◌≤◌, true, ◌&&◌, List, ◌≡◌, leb, ltb}
 use Rattle.graph.specs.Graph.{Graph, Group}
 use Rattle.graph.specs.Core.{Nonempty, Level, LevelAcross, EqualLevel}
+use Rattle.network.specs.declared.Extent.{Extent}
 use Rattle.peeling.specs.declared.Scope.{Scope}
 use Rattle.peeling.specs.Peeling.{Tabled, Kept, row_length, degree_of, need_of}
 use Rattle.climbing.specs.declared.Rise.{Rise}
@@ -20,8 +21,8 @@ of_targets Sources fixed k = fixed
 of_targets Both fixed k = k
 
 -- so at k [fixed,k], [k,fixed] or [k,k]
-abbrev pub asked : ℕ → ℕ → Rise → ℕ → ℕ → Scope
-asked n m rise fixed k = record { order = n; size = m; x = of_sources rise fixed k; y = of_targets rise fixed k }
+abbrev pub asked : Extent → Rise → ℕ → ℕ → Scope
+asked e rise fixed k = record { extent = e; x = of_sources rise fixed k; y = of_targets rise fixed k }
 
 -- the core asked for at k is not empty
 abbrev pub Reached : Graph → Rise → ℕ → ℕ → Type 0
@@ -53,7 +54,7 @@ end_rising n Both = 2 * n
 
 -- those of them that have the edges they need
 abbrev pub rests : Scope → Rise → List ℕ → Group
-rests c rise w p = rising c.order rise p && leb (need_of c p) (degree_of c.order c.size w p)
+rests c rise w p = rising c.extent.order rise p && leb (need_of c p) (degree_of c.extent.order c.extent.size w p)
 
 -- a number below N passes the test
 pub record Some (P : Group) (N : ℕ) : Type 0 where

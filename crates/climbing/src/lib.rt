@@ -4,7 +4,8 @@
 mod climbs;
 mod lengths;
 
-// What a climb raises: what targets need, what sources need, or both alike.
+// What a climb raises: what targets need, what sources need, or both alike. What is fixed stands beside it: of the functions that take a `Rise` only
+// `asked` looks at it, and where both rise nothing does.
 #[derive(Clone, Copy, PartialEq, Eq, Debug)]
 pub enum Rise {
     Targets,

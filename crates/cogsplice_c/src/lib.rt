@@ -1,5 +1,5 @@
 // The public calls for C: a slice comes as a pointer and a length, an answer goes back as a struct of 01's numbers. include/cogsplice.h
-// declares them.
+// declares them, and the order of their parameters is C's interface.
 #![tactic(auto)]
 
 mod numbers;
@@ -145,7 +145,7 @@ pub extern "C" fn cogsplice_index(
     cogsplice::index(file, out_starts, out_rows, in_starts, in_rows).into()
 }
 
-// The side that a C program names: the vouched one where it says so.
+// The side that a C program names: the vouched one where it says so. No `From`: C's bool and the side are types of others.
 fn side_of(vouched: bool) -> Side
     ensures { result ≡ side_of vouched }
 {

@@ -6,17 +6,20 @@ use mathlib.Core.Path.{◌≡◌, refl, sym, ap, ◌∙◌}
 use native.Mathlib.Decide.{ℕ_discrete}
 use native.Mathlib.Nat.{le_refl}
 use native.Mathlib.Omega.{arith}
-use lib.ListN.{length, set, drop, length-set}
+use lib.Dec.{eqb}
+use lib.ListN.{length, set, take, drop, length-set, length-take}
+use Rattle.std.proofs.lemmas.List.{get_or-take}
 use Rattle.graph.specs.Range.{sum, if}
 use Rattle.graph.specs.Graph.{Group}
 use Rattle.graph.specs.Within.{cut}
 use Rattle.graph.proofs.Tests.{and_left, and_both, test-ext}
 use Rattle.graph.proofs.Sums.{sum-empty, sum-next, sum-ext}
+use Rattle.graph.proofs.Ranges.{table-ext}
 use Rattle.graph.proofs.Stores.{drop_past}
 use Rattle.network.specs.Groups.{group_of, bytes_of, GroupIn}
 use Rattle.network.proofs.Groups.{length-bytes_of}
 use Rattle.grouping.proofs.Bytes.{fill_begins, fill-next, written-group, written_in}
-use Rattle.cores.specs.Entries.{KeptInside}
+use Rattle.cores.specs.Entries.{Copied, KeptInside}
 
 -- the bytes before u are those of the group, the others as they were, and k is the number of its members before u
 pub record Copying (A : Group) (s₀ s : List ℕ) (u k : ℕ) : Type 0 where
@@ -36,6 +39,24 @@ copying-next {A} {s₀} {s} {u} {v = v} c l e i =
       counted = omega (arith, c.counted, sum-next (λ i. if (A i) 1) u);
       same_length = length-set s u v ∙ c.same_length;
     }
+
+-- a group of a core inside one that stands in the first bytes of a table
+pub kept-cut : {need i n : ℕ} (a : List ℕ) {s s' : List ℕ} {found k : ℕ} → i ≡ n → n ≤ length a
+    → KeptInside need (length (take i a)) (take i a) s s' found k → KeptInside need n a s s' found k
+kept-cut {i = i} {n} a e l h = record { as-found = h.as-found; whole = λ z. whole (h.whole z) }
+  where
+    long : length (take i a) ≡ n
+    long = omega (arith, length-take {A = ℕ})
+
+    same : (u : ℕ) → u < n → group_of (take i a) u ≡ group_of a u
+    same u m = ap (λ b. eqb b 1) (get_or-take i a u 0 (omega arith))
+
+    whole : {s s' : List ℕ} {k : ℕ} → Copied (length (take i a)) (take i a) s s' k → Copied n a s s' k
+    whole {s} c =
+        record {
+          bytes = c.bytes ∙ rw long (ap (λ t. t ++ drop n s) (table-ext n (λ u m. ap (λ b. if b 1) (same u m))));
+          counted = c.counted ∙ rw long (sum-ext n (λ u m. ap (λ b. if b 1) (same u m)));
+        }
 
 -- the group that is kept is what is in both, and stands where it was found
 pub record Kept (n : ℕ) (a s s₁ s₂ : List ℕ) (k : ℕ) : Type 0 where

@@ -55,6 +55,10 @@ module _ (ask : Option ℕ) (n m : ℕ) (a b : List ℕ) (s t w : ℕ) where
   unfolding later_refusal
   later-none e = grind (arith, nat_tests)
 
+-- in other words, by which A and B are told to have a byte for each member
+pub tables_long : (ask : Option ℕ) (n m : ℕ) (a b : List ℕ) (s t w : ℕ) → later_refusal ask n m a b s t w ≡ None → LongFor n m a b s t w
+tables_long ask n m a b s t w e = (later-none ask n m a b s t w e).0
+
 -- where none is given on the way in, the file is accepted, and what is asked is not refused
 pub entry-none : (ask : Option ℕ) (f a b : List ℕ) (s t w : ℕ) → entry_refusal ask f a b s t w ≡ None → Accepted f × (ask_refusal ask ≡ None)
 unfolding entry_refusal

@@ -1,4 +1,4 @@
-// The public calls on cores and levels inside A and B.
+// The public calls on cores and levels inside A and B. Their parameters are those that 01 and 02 name, and what hands them on has them as they come.
 ghost use Rattle.std.specs.Prelude.{length};
 ghost use Rattle.cores.specs.Entries.{entry_refusal, LevelWithin};
 ghost use Rattle.cores.specs.Calls.{CoreCall, LevelBy, LevelCall, LevelAcrossCall, EqualLevelCall};
@@ -26,10 +26,11 @@ pub fn core(
     let extent = enter(file, a, b, None, s.len(), t.len(), work)?;
     let scope = Scope::of(extent, usize::from(x), usize::from(y));
     let totals = core_in(work, scope, s, t);
+    let n = extent.order;
     Ok(Totals {
         edges: totals.edges,
-        sources: keep_inside(x, a, extent.order, s, totals.sources),
-        targets: keep_inside(y, b, extent.order, t, totals.targets),
+        sources: keep_inside(x, &a[0..n], s, totals.sources),
+        targets: keep_inside(y, &b[0..n], t, totals.targets),
     })
 }
 

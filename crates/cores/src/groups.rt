@@ -3,13 +3,14 @@
 ghost use Rattle.std.specs.Prelude.{◌≤◌, length};
 ghost use Rattle.cores.specs.Entries.{Copied, KeptInside};
 
-// A group of n members written to another table, and how many they are.
-fn copy_group(from: &[u8], n: usize, group: &mut [u8]) -> usize
-    requires { (n ≤ length from.now) × (n ≤ length group.old) }
-    ensures { Copied n from.now group.old group.new result }
+// A group written to another table, and how many members it has.
+fn copy_group(from: &[u8], group: &mut [u8]) -> usize
+    requires { length from.now ≤ length group.old }
+    ensures { Copied (length from.now) from.now group.old group.new result }
 {
     let mut count = 0;
-    for (u, byte) in from[..n].iter().enumerate() {
+    // By a `zip` a proof would know both tables through the iterator's state alone.
+    for (u, byte) in from.iter().enumerate() {
         let is_in = *byte == 1;
         group[u] = u8::from(is_in);
         count += usize::from(is_in);
@@ -18,12 +19,12 @@ fn copy_group(from: &[u8], n: usize, group: &mut [u8]) -> usize
 }
 
 // The group of a core inside another, and how many it has, by what each of it needs: as it was found, so many, or the other itself.
-pub fn keep_inside(need: u16, other: &[u8], n: usize, group: &mut [u8], found: usize) -> usize
-    requires { (n ≤ length other.now) × (n ≤ length group.old) }
-    ensures { KeptInside need n other.now group.old group.new found result }
+pub fn keep_inside(need: u16, other: &[u8], group: &mut [u8], found: usize) -> usize
+    requires { length other.now ≤ length group.old }
+    ensures { KeptInside need (length other.now) other.now group.old group.new found result }
 {
     if need != 0 {
         return found;
     }
-    copy_group(other, n, group)
+    copy_group(other, group)
 }

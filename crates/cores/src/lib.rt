@@ -6,4 +6,4 @@ mod entries;
 mod groups;
 
 pub use asks::{core, equal_level, level, level_across};
-pub use entries::{check_later, enter};
+pub use entries::{check_later, check_within, enter};

@@ -2,9 +2,10 @@
 #![tactic(auto)]
 
 mod fills;
+mod inputs;
 mod listings;
 
-// The source and the target of an edge.
+// The source and the target of an edge, by which tables are indexed: a `Link` of linkset holds them as it keeps them, in 16 bits.
 #[derive(Clone, Copy, Debug, PartialEq, Eq)]
 pub struct Ends {
     pub source: usize,
@@ -12,4 +13,5 @@ pub struct Ends {
 }
 
 pub use fills::{fill, fill_within};
+pub use inputs::{EdgeList, Within};
 pub use listings::{is_between, list_edges};

@@ -1,7 +1,7 @@
 -- One layer: what it takes to be one, its links, and its x * y beside that of a later one.
 use Prim.Native.Nat.{ℕ, ◌*◌, ◌<◌, ◌≤◌}
 use mathlib.Core.Bool.{Bool, true, ◌&&◌}
-use mathlib.Core.Logic.{◌⊎◌, ◌↔◌}
+use mathlib.Core.Logic.{◌↔◌}
 use mathlib.Core.Path.{◌≡◌, refl, sym, ap, ◌∙◌}
 use native.Mathlib.Nat.{le_trans, one-le-mul}
 use native.Mathlib.Omega.{arith}
@@ -19,10 +19,6 @@ use Rattle.graph.proofs.Exists.{dense-edges}
 use Rattle.graph.proofs.Density.{finding-bounds}
 use Rattle.graph.proofs.Found.{finding-unique, finding-nonempty}
 use Rattle.graph.proofs.Masks.{weighing, closed-weighing, nonempty-heavier, finding-weights}
-
--- a layer before l, other than 0, is no longer in at the start of l, and every other is
-in-cases : (l a : ℕ) → ((1 ≤ a) × (a < l)) ⊎ (is_in l a ≡ true)
-in-cases l a = grind (arith, nat_tests)
 
 -- two layers that are equal where one of them is before l are both in or both not
 pub in-same : (l a b : ℕ) → (1 ≤ a → a < l → b ≡ a) → (1 ≤ b → b < l → a ≡ b) → is_in l a ≡ is_in l b

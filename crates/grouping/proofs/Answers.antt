@@ -29,23 +29,23 @@ use Rattle.peeling.proofs.Finished.{sides-none, left-source, left-target, left_b
 use Rattle.grouping.proofs.Bytes.{written-group, written_in}
 
 -- what a peel by a scope is for a graph of the scope's numbers of vertices and edges
-ended-peeling : {d : Bool} {g : Graph} {c : Scope} {w w' : List ℕ} {p : Peel} → Tabled g c.order c.size w → Ended d c w w' p
-    → Peeling g.order c.size (need g.order c.x c.y) w' p
+ended-peeling : {d : Bool} {g : Graph} {c : Scope} {w w' : List ℕ} {p : Peel} → Tabled g c.extent.order c.extent.size w → Ended d c w w' p
+    → Peeling g.order c.extent.size (need g.order c.x c.y) w' p
 ended-peeling t e = rw t.order e.peeling
 
 -- the peel's table holds the graph still
-ended-indexed : {d : Bool} {g : Graph} {c : Scope} {w w' : List ℕ} {p : Peel} → Tabled g c.order c.size w → Ended d c w w' p → Indexed g c.size w'
+ended-indexed : {d : Bool} {g : Graph} {c : Scope} {w w' : List ℕ} {p : Peel} → Tabled g c.extent.order c.extent.size w → Ended d c w w' p → Indexed g c.extent.size w'
 ended-indexed t e = (tabled-kept t e.kept).indexed
 
-module _ {d : Bool} {c : Scope} {w w' : List ℕ} {p : Peel} (e : Ended d c w w' p) (z : p.head ≡ p.tail) {g : Graph} (t : Tabled g c.order c.size w) {A B : Group}
-    (a : (u : ℕ) → u < g.order → A u ≡ leb c.x (degree_of g.order c.size w' u))
-    (b : (v : ℕ) → v < g.order → B v ≡ leb c.y (degree_of g.order c.size w' (g.order + v))) where
+module _ {d : Bool} {c : Scope} {w w' : List ℕ} {p : Peel} (e : Ended d c w w' p) (z : p.head ≡ p.tail) {g : Graph} (t : Tabled g c.extent.order c.extent.size w) {A B : Group}
+    (a : (u : ℕ) → u < g.order → A u ≡ leb c.x (degree_of g.order c.extent.size w' u))
+    (b : (v : ℕ) → v < g.order → B v ≡ leb c.y (degree_of g.order c.extent.size w' (g.order + v))) where
   -- the sources left are the first group
-  sources-same : Same g (left g.order c.size w' p) A
+  sources-same : Same g (left g.order c.extent.size w' p) A
   sources-same u l = left-source c.x c.y t.closed (ended-indexed t e) (ended-peeling t e) u l ∙ sym (a u l)
 
   -- the targets left the second
-  targets-same : Same g (targets g (left g.order c.size w' p)) B
+  targets-same : Same g (targets g (left g.order c.extent.size w' p)) B
   targets-same v l = left-target c.x c.y t.closed (ended-indexed t e) (ended-peeling t e) v l ∙ sym (b v l)
 
   -- they are the core
@@ -70,23 +70,23 @@ module _ {d : Bool} {c : Scope} {w w' : List ℕ} {p : Peel} (e : Ended d c w w'
       ∙ edges-same t.closed (λ u l. all-dropped u ∙ sources-same u l) (λ v l. all-dropped (g.order + v) ∙ targets-same v l)
     where
       -- what is not dropped is what is left
-      all-dropped : (q : ℕ) → standing c.order c.size w' p q ≡ left g.order c.size w' p q
+      all-dropped : (q : ℕ) → standing c.extent.order c.extent.size w' p q ≡ left g.order c.extent.size w' p q
       all-dropped q = rw (t.order, z)
 
 module _ {d : Bool} {c : Scope} {w w' s' t' : List ℕ} {p : Peel} {r : Totals} (s t : List ℕ) {at : ℕ} (e : Ended d c w w' p) (z : p.head ≡ p.tail)
-    (start : at ≡ 2 * c.order + 1 + 2 * c.size)
-    (first : s' ≡ bytes_of c.order (at_least w' at c.x) ++ drop c.order s)
-    (second : t' ≡ bytes_of c.order (at_least w' (at + c.order) c.y) ++ drop c.order t)
+    (start : at ≡ 2 * c.extent.order + 1 + 2 * c.extent.size)
+    (first : s' ≡ bytes_of c.extent.order (at_least w' at c.x) ++ drop c.extent.order s)
+    (second : t' ≡ bytes_of c.extent.order (at_least w' (at + c.extent.order) c.y) ++ drop c.extent.order t)
     (sources : r.sources ≡ p.sources) (targets : r.targets ≡ p.targets) (total : r.edges ≡ p.edges) where
   -- the bytes of the first group are by the degrees of the sources
-  bytes-source : {g : Graph} → Tabled g c.order c.size w → (u : ℕ) → u < g.order
-      → group_of s' u ≡ leb c.x (degree_of g.order c.size w' u)
-  bytes-source k u l = rw (k.order, ← start) (written-group c.order (at_least w' at c.x) s first u (omega (arith, k.order)))
+  bytes-source : {g : Graph} → Tabled g c.extent.order c.extent.size w → (u : ℕ) → u < g.order
+      → group_of s' u ≡ leb c.x (degree_of g.order c.extent.size w' u)
+  bytes-source k u l = rw (k.order, ← start) (written-group c.extent.order (at_least w' at c.x) s first u (omega (arith, k.order)))
 
   -- those of the second by the degrees of the targets
-  bytes-target : {g : Graph} → Tabled g c.order c.size w → (v : ℕ) → v < g.order
-      → group_of t' v ≡ leb c.y (degree_of g.order c.size w' (g.order + v))
-  bytes-target k v l = rw (k.order, ← start, ← add_assoc at c.order v) (written-group c.order (at_least w' (at + c.order) c.y) t second v (omega (arith, k.order)))
+  bytes-target : {g : Graph} → Tabled g c.extent.order c.extent.size w → (v : ℕ) → v < g.order
+      → group_of t' v ≡ leb c.y (degree_of g.order c.extent.size w' (g.order + v))
+  bytes-target k v l = rw (k.order, ← start, ← add_assoc at c.extent.order v) (written-group c.extent.order (at_least w' (at + c.extent.order) c.y) t second v (omega (arith, k.order)))
 
   -- so the call's answer is right
   pub core-in : CoreIn c w w' s s' t t' r
@@ -99,8 +99,8 @@ module _ {d : Bool} {c : Scope} {w w' s' t' : List ℕ} {p : Peel} {r : Totals} 
             (total ∙ ended-edges e z k (bytes-source k) (bytes-target k))
             (sources ∙ ended-sources e z k (bytes-source k) (bytes-target k))
             (targets ∙ ended-targets e z k (bytes-source k) (bytes-target k));
-        sources = written_in c.order (at_least w' at c.x) s first;
-        targets = written_in c.order (at_least w' (at + c.order) c.y) t second;
+        sources = written_in c.extent.order (at_least w' at c.x) s first;
+        targets = written_in c.extent.order (at_least w' (at + c.extent.order) c.y) t second;
         kept = e.kept;
       }
 
@@ -112,12 +112,12 @@ not-cut {d = false} e h = e.done h
 -- one that is cut, where both sides need an edge
 module _ {d : Bool} {c : Scope} {w w' : List ℕ} {p : Peel} (e : Ended d c w w' p) (z : emptied p ≡ true) (x : 1 ≤ c.x) (y : 1 ≤ c.y) where
   -- leaves no pair that is dense and has anybody
-  no-dense : {g : Graph} → Tabled g c.order c.size w → {S T : Group} → Dense g c.x c.y S T → ¬ (1 ≤ card g S)
+  no-dense : {g : Graph} → Tabled g c.extent.order c.extent.size w → {S T : Group} → Dense g c.x c.y S T → ¬ (1 ≤ card g S)
   no-dense t k h =
       sides-none p z (left_both c.x c.y t.closed (ended-indexed t e) (ended-peeling t e) (nonempty t.closed k h ((dense-both t.closed x y k).0 h)))
 
   -- so nobody is the core
-  cut-core : {g : Graph} → Tabled g c.order c.size w → Core g c.x c.y nobody nobody
+  cut-core : {g : Graph} → Tabled g c.extent.order c.extent.size w → Core g c.x c.y nobody nobody
   cut-core {g} t =
       record {
         sources = λ u l h. refl;
@@ -129,8 +129,8 @@ module _ {d : Bool} {c : Scope} {w w' : List ℕ} {p : Peel} (e : Ended d c w w'
       }
 
   -- and the call's answer is right where both groups are cleared
-  pub cut_in : {s' t' : List ℕ} {r : Totals} (s t : List ℕ) → s' ≡ bytes_of c.order nobody ++ drop c.order s
-      → t' ≡ bytes_of c.order nobody ++ drop c.order t → r ≡ record { edges = 0; sources = 0; targets = 0 } → CoreIn c w w' s s' t t' r
+  pub cut_in : {s' t' : List ℕ} {r : Totals} (s t : List ℕ) → s' ≡ bytes_of c.extent.order nobody ++ drop c.extent.order s
+      → t' ≡ bytes_of c.extent.order nobody ++ drop c.extent.order t → r ≡ record { edges = 0; sources = 0; targets = 0 } → CoreIn c w w' s s' t t' r
   cut_in {s'} {t'} s t first second r =
       record {
         core = λ g k. core-same k.closed (cleared s first k) (cleared t second k) (cut-core k);
@@ -139,15 +139,15 @@ module _ {d : Bool} {c : Scope} {w w' : List ℕ} {p : Peel} (e : Ended d c w w'
             let out = card-same g (cleared s first k) in
             let inn = card-same g (cleared t second k) in
             r ∙ totals-same (sym (no_edges k.closed (group_of s') (group_of t') (sym inn ∙ sum-zero g.order))) (sym (sum-zero g.order) ∙ out) (sym (sum-zero g.order) ∙ inn);
-        sources = written_in c.order nobody s first;
-        targets = written_in c.order nobody t second;
+        sources = written_in c.extent.order nobody s first;
+        targets = written_in c.extent.order nobody t second;
         kept = e.kept;
       }
     where
       -- nobody is in a group that is cleared
-      cleared : (s : List ℕ) {s' : List ℕ} → s' ≡ bytes_of c.order nobody ++ drop c.order s → {g : Graph} → Tabled g c.order c.size w
+      cleared : (s : List ℕ) {s' : List ℕ} → s' ≡ bytes_of c.extent.order nobody ++ drop c.extent.order s → {g : Graph} → Tabled g c.extent.order c.extent.size w
           → Same g nobody (group_of s')
-      cleared s h k u l = sym (written-group c.order nobody s h u (omega (arith, k.order)))
+      cleared s h k u l = sym (written-group c.extent.order nobody s h u (omega (arith, k.order)))
 
       -- and no edge goes to it
       no_edges : {g : Graph} → Closed g → (S T : Group) → card g T ≡ 0 → edges g S T ≡ 0

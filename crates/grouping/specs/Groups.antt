@@ -17,8 +17,8 @@ at_least w i k u = leb k (get_or w (i + u) 0)
 
 -- the groups written are the core of every graph that the table holds, and the numbers returned are theirs
 pub record CoreIn (c : Scope) (w w' s s' t t' : List ℕ) (r : Totals) : Type 0 where
-  pub core : (g : Graph) → Tabled g c.order c.size w → Core g c.x c.y (group_of s') (group_of t')
-  pub counted : (g : Graph) → Tabled g c.order c.size w → r ≡ totals g (group_of s') (group_of t')
-  pub sources : GroupIn c.order s s'
-  pub targets : GroupIn c.order t t'
-  pub kept : Kept c.order c.size w w'
+  pub core : (g : Graph) → Tabled g c.extent.order c.extent.size w → Core g c.x c.y (group_of s') (group_of t')
+  pub counted : (g : Graph) → Tabled g c.extent.order c.extent.size w → r ≡ totals g (group_of s') (group_of t')
+  pub sources : GroupIn c.extent.order s s'
+  pub targets : GroupIn c.extent.order t t'
+  pub kept : Kept c.extent.order c.extent.size w w'

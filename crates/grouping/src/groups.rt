@@ -1,14 +1,14 @@
 // The core of a work table: both groups written, and their numbers.
 ghost use Rattle.std.specs.Prelude.{false, ◌++◌, ◌≡◌, ◌+◌, ◌≤◌, length, drop};
 ghost use Rattle.network.specs.Groups.{bytes_of};
-ghost use Rattle.peeling.specs.Peeling.{Small, Held};
+ghost use Rattle.peeling.specs.Peeling.{Held};
 ghost use Rattle.grouping.specs.Groups.{nobody, at_least, CoreIn};
 
 use network::Totals;
 use peeling::Scope;
 use raising::whole;
 
-// The group of those whose degree, from entry `at` of the table on, is at least `least`.
+// The group of those whose degree, from entry `at` of the table on, is at least `least`. The laws on a peel speak of the whole table, so it is not cut.
 pub fn write_group(work: &[u16], at: usize, n: usize, least: usize, group: &mut [u8])
     requires degrees { at + n ≤ length work.now }
     requires room { n ≤ length group.old }
@@ -43,14 +43,14 @@ fn is_free(scope: Scope) -> bool
 }
 
 // 01: the core, of every graph whose rows the table holds. Where both sides need an edge, it is empty as soon as a side is; else the queue is
-// drained, since the groups are read off the degrees.
+// drained, since the groups are read off the degrees. The groups are two parameters, as 01 names them: a struct of two lent tables would be made for
+// this one call.
 pub fn core_in(work: &mut [u16], scope: Scope, s: &mut [u8], t: &mut [u8]) -> Totals
-    requires small { Small scope.order scope.size }
-    requires held { Held scope.order scope.size work.old }
-    requires room { (scope.order ≤ length s.old) × (scope.order ≤ length t.old) }
+    requires held { Held scope.extent.order scope.extent.size work.old }
+    requires room { (scope.extent.order ≤ length s.old) × (scope.extent.order ≤ length t.old) }
     ensures { CoreIn scope work.old work.new s.old s.new t.old t.new result }
 {
-    let n = scope.order;
+    let n = scope.extent.order;
     let drain = is_free(scope);
     let peel = whole(work, scope, drain);
     if peel.is_cut(drain) {

@@ -7,14 +7,15 @@ use native.Mathlib.Omega.{arith}
 use lib.ListN.{length, set, drop, length-drop}
 use lib.Seq.{ext_get_or, get_or-drop, get_or-set_same, get_or-set_other}
 use Rattle.network.specs.Refusals.{work_length}
-use Rattle.peeling.specs.Peeling.{degree_of, Small, Kept}
+use Rattle.network.specs.Small.{Small}
+use Rattle.peeling.specs.Peeling.{degree_of, Kept}
 use Rattle.peeling.proofs.Kept.{kept_next, kept_set}
 use Rattle.picking.specs.Winners.{Beside, Room}
 use Rattle.harmonic.specs.Walks.{keys_at}
 
 -- there is room for the tree
 pub room : {n m : ℕ} {w : List ℕ} → Small n m → 1 ≤ n → work_length n m ≤ length w → Room (keys_at n m) (2 * n) w
-room s l h = record { some = omega arith; most = omega (arith, s.order); low = omega (arith, s.order, s.size); room = omega arith }
+room s l h = record { some = omega arith; most = omega (arith, s.order); room = omega arith }
 
 -- other nodes keep the rows
 pub kept-nodes : {n m : ℕ} {w w' : List ℕ} → Beside (keys_at n m) (2 * n) w w' → Kept n m w w'

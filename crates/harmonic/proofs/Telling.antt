@@ -15,7 +15,8 @@ use Rattle.graph.proofs.Harmonic.{linked-order, places-linked, places-none}
 use Rattle.graph.proofs.Keys.{keys-begin, keys-end}
 use Rattle.network.specs.declared.Totals.{Totals}
 use Rattle.peeling.specs.declared.Peel.{Peel}
-use Rattle.peeling.specs.Peeling.{degree_of, live, Small, Tabled, Held, Peeling, Kept}
+use Rattle.network.specs.Small.{Small}
+use Rattle.peeling.specs.Peeling.{degree_of, live, Tabled, Held, Peeling, Kept}
 use Rattle.peeling.proofs.Kept.{kept_next, kept_back, tabled-kept}
 use Rattle.peeling.proofs.Totals.{place-degree}
 use Rattle.picking.specs.Winners.{Beside}

@@ -23,7 +23,8 @@ use Rattle.graph.proofs.Keys.{keys-test, keys-pick, keys-next, keys-end, drop-ke
 use Rattle.network.specs.declared.Side.{Side}
 use Rattle.network.specs.declared.Side.TheVariants.{Source, Target}
 use Rattle.network.specs.declared.Totals.{Totals}
-use Rattle.peeling.specs.Peeling.{row_length, degree_of, between, live, Small, Tabled}
+use Rattle.network.specs.Small.{Small}
+use Rattle.peeling.specs.Peeling.{row_length, degree_of, between, live, Tabled}
 use Rattle.peeling.proofs.Tables.{start-last}
 use Rattle.peeling.proofs.Whole.{row-degree}
 use Rattle.peeling.proofs.Kept.{tabled-kept}

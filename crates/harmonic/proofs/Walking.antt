@@ -16,7 +16,8 @@ use Rattle.graph.specs.Drops.{first_mark}
 use Rattle.graph.proofs.Unbeaten.{unbeaten-start, unbeaten-keep, unbeaten-take}
 use Rattle.graph.proofs.Harmonic.{denser-ranks, size-next}
 use Rattle.network.specs.declared.Totals.{Totals}
-use Rattle.peeling.specs.Peeling.{degree_of, Small, Tabled, Held, Kept}
+use Rattle.network.specs.Small.{Small}
+use Rattle.peeling.specs.Peeling.{degree_of, Tabled, Held, Kept}
 use Rattle.peeling.proofs.Kept.{kept_same, kept_next}
 use Rattle.harmonic.specs.Walks.{Picks, step_of, totals_after, better, At, Turned, Top, Walked}
 use Rattle.harmonic.proofs.Turns.{at_size, all-dropped}

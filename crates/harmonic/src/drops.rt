@@ -1,9 +1,11 @@
 // One drop: the place to drop is chosen by the tree of matches, it is marked, and the places of its row lose an edge.
+// The lent table goes beside its extent, and what it holds is said at each call: a struct with both would have each call promise that it still holds
+// the same table. A place is what stands in a row, an entry that is read.
 ghost use Rattle.std.specs.Prelude.{◌≡◌, ◌+◌, ◌≢◌, ℕ, ◌*◌, ◌<◌, ◌≤◌, eqb, length};
 ghost use Rattle.graph.specs.Range.{if};
 ghost use Rattle.graph.specs.Drops.{first_mark};
 ghost use Rattle.network.specs.Refusals.{work_length};
-ghost use Rattle.peeling.specs.Peeling.{Small, Rows, degree_of, between};
+ghost use Rattle.peeling.specs.Peeling.{Rows, degree_of, between};
 ghost use Rattle.harmonic.specs.Walks.{Picks, Chosen, Loses, Dropped, Spare};
 
 use crate::places::place_at;
@@ -11,9 +13,8 @@ use crate::{Choice, FIRST_MARK};
 use network::Extent;
 use picking::Bracket;
 
-// The tree of matches over the places: their keys are the degrees, which stand after the rows.
+// The tree of matches over the places: their keys are the degrees, which stand after the rows. No `From`: both types are of other crates.
 pub fn bracket_of(extent: Extent) -> Bracket
-    requires { Small extent.order extent.size }
     ensures { result ≡ record { at = 2 * extent.order + 1 + 2 * extent.size; places = 2 * extent.order } }
 {
     Bracket {
@@ -24,8 +25,6 @@ pub fn bracket_of(extent: Extent) -> Bracket
 
 // 02: the place to drop, which stands at the root of the tree, or `Done` where that one too is marked.
 pub fn choose(work: &[u16], extent: Extent) -> Choice
-    requires small { Small extent.order extent.size }
-    requires some_order { 1 ≤ extent.order }
     requires rows { Rows extent.order extent.size work.now }
     requires tree { Picks extent.order extent.size work.now }
     ensures { Chosen extent.order extent.size work.now result }
@@ -41,8 +40,6 @@ pub fn choose(work: &[u16], extent: Extent) -> Choice
 
 // One edge less for a place, unless it was dropped.
 fn lower(work: &mut [u16], extent: Extent, place: usize)
-    requires small { Small extent.order extent.size }
-    requires some_order { 1 ≤ extent.order }
     requires long { work_length extent.order extent.size ≤ length work.old }
     requires tree { Picks extent.order extent.size work.old }
     requires is_place { place < 2 * extent.order }
@@ -60,8 +57,6 @@ fn lower(work: &mut [u16], extent: Extent, place: usize)
 // of an ascending file come in their order, and of those that tie only the first comes far in the tree. The row stands in the table that is
 // written to, so its entries are read by their index.
 fn lower_row(work: &mut [u16], extent: Extent, place: usize)
-    requires small { Small extent.order extent.size }
-    requires some_order { 1 ≤ extent.order }
     requires rows { Rows extent.order extent.size work.old }
     requires tree { Picks extent.order extent.size work.old }
     requires is_place { place < 2 * extent.order }
@@ -79,8 +74,6 @@ fn lower_row(work: &mut [u16], extent: Extent, place: usize)
 
 // The place marked, and each place of its row that is left lowered.
 pub fn drop_place(work: &mut [u16], extent: Extent, place: usize, mark: u16)
-    requires small { Small extent.order extent.size }
-    requires some_order { 1 ≤ extent.order }
     requires rows { Rows extent.order extent.size work.old }
     requires tree { Picks extent.order extent.size work.old }
     requires is_place { place < 2 * extent.order }

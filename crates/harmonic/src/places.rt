@@ -1,20 +1,18 @@
 // Places by their numbers: below the order the member as a source, and from there on as a target.
-ghost use Rattle.std.specs.Prelude.{◌≡◌, ◌<◌, ◌≤◌};
-ghost use Rattle.network.specs.File.{most_members};
+ghost use Rattle.std.specs.Prelude.{◌≡◌, ◌<◌};
 ghost use Rattle.harmonic.specs.Walks.{number_of, place_at};
 
 use crate::Place;
-use network::Side;
+use network::{Extent, Side};
 
 // The number of a place.
-pub fn number_of(order: usize, place: Place) -> usize
-    requires order { order ≤ most_members }
-    requires is_member { place.member < order }
-    ensures { result ≡ number_of order place }
+pub fn number_of(extent: Extent, place: Place) -> usize
+    requires { place.member < extent.order }
+    ensures { result ≡ number_of extent.order place }
 {
     match place.side {
         Side::Source => place.member,
-        Side::Target => order + place.member,
+        Side::Target => extent.order + place.member,
     }
 }
 

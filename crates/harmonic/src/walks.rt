@@ -1,7 +1,7 @@
-// All drops, one after the other, and the best state met.
+// All drops, one after the other, and the best state met. The table goes beside its extent, as in `drops`.
 ghost use Rattle.std.specs.Prelude.{◌≡◌, ◌+◌, ◌*◌, ◌≤◌};
 ghost use Rattle.graph.specs.Graph.{Graph};
-ghost use Rattle.peeling.specs.Peeling.{Small, Held, Tabled};
+ghost use Rattle.peeling.specs.Peeling.{Held, Tabled};
 ghost use Rattle.harmonic.specs.Walks.{Picks, Next, At, Turned, Walked, BestIn, step_of, without, has_place, better};
 
 use crate::drops::{bracket_of, choose, drop_place};
@@ -50,14 +50,13 @@ fn better_of(best: Totals, state: Totals) -> Totals
 // One place dropped, with the next mark. E, |S| and |T| of the state after it are returned.
 #[tactic(auto, using(crate::proofs::Turns::at_size))]
 fn turn(work: &mut [u16], extent: Extent, state: Totals, place: Place) -> Totals
-    requires small { Small extent.order extent.size }
     requires tree { Picks extent.order extent.size work.old }
     requires next { Next extent.order extent.size work.old place }
     requires at { (g : Graph) × At g extent.order extent.size work.old (step_of extent.order state) state }
     ensures { Turned extent.order extent.size state work.old work.new result }
 {
     let side = place.side;
-    let number = number_of(extent.order, place);
+    let number = number_of(extent, place);
     let degree = usize::from(work[bracket_of(extent).at + number]);
     let step = 2 * extent.order - (state.sources + state.targets);
     drop_place(work, extent, number, (FIRST_MARK + step) as u16);
@@ -66,8 +65,6 @@ fn turn(work: &mut [u16], extent: Extent, state: Totals, place: Place) -> Totals
 
 // 02: all places dropped, and the best of the states before each drop: the last, empty one is none of these.
 fn walk(work: &mut [u16], extent: Extent, whole: Totals) -> Totals
-    requires small { Small extent.order extent.size }
-    requires some_order { 1 ≤ extent.order }
     requires tree { Picks extent.order extent.size work.old }
     requires held { Held extent.order extent.size work.old }
     requires begins { (g : Graph) → Tabled g extent.order extent.size work.old → At g extent.order extent.size work.old 0 whole }
@@ -84,7 +81,6 @@ fn walk(work: &mut [u16], extent: Extent, whole: Totals) -> Totals
 
 // 02: E, |S| and |T| of the best state, or zeros where there are no links, and nothing is dropped.
 pub fn best_state(work: &mut [u16], extent: Extent) -> Totals
-    requires small { Small extent.order extent.size }
     requires held { Held extent.order extent.size work.old }
     ensures { BestIn extent.order extent.size work.old work.new result }
 {

@@ -8,7 +8,8 @@ use native.Mathlib.Decide.{dec_lt}
 use native.Mathlib.Omega.{arith}
 use borrow.Author.Tests.{lt-ltb, le-ltb}
 use lib.Dec.{ltb}
-use lib.ListN.{length}
+use lib.ListN.{length, take}
+use lib.Seq.{length-take-le}
 use Rattle.std.specs.Prelude.{None, Some, Result, IfErr}
 use Rattle.network.specs.declared.Refusal.{Refusal}
 use Rattle.network.specs.declared.Refusal.TheVariants.{Table}
@@ -75,3 +76,10 @@ module _ (j : List ℕ) (asked o r w : ℕ) where
       let (b, c) = (or-fails (ltb o out_length || ltb r (count_of j asked)) (ltb w work_entries)).0 a in
       let (d, e) = (or-fails (ltb o out_length) (ltb r (count_of j asked))).0 b in
       record { header = (headed j).0 p; out = (ltb-fails o out_length).0 d; numbers = (ltb-fails r (count_of j asked)).0 e; work = (ltb-fails w work_entries).0 c }
+
+-- the table of numbers cut to the entries followed
+pub cut-followed : (j : List ℕ) (asked o w : ℕ) (r : List ℕ) {k : ℕ} → journal_refusal j asked o (length r) w ≡ None → k ≡ count_of j asked → length (take k r) ≡ k
+cut-followed j asked o w r none e = rw e (length-take-le _ r (ready j asked o (length r) w none).numbers)
+
+-- what the call needs where nothing is refused
+pub ruleset accepted = (ready, cut-followed, count-within, length-take-le)

@@ -1,8 +1,9 @@
-// The journal call.
-ghost use Rattle.std.specs.Prelude.{◌||◌, ◌≡◌, ◌++◌, ◌≤◌, ltb, length, drop, None, Some, IfErr, OnOk};
+// The journal call. A journal and how many entries are asked for stay two parameters: they are the call's own, which C gives too.
+ghost use Rattle.std.specs.Prelude.{◌||◌, ◌≡◌, ◌≤◌, ltb, length, None, Some, IfErr, OnOk};
 ghost use Rattle.network.specs.File.{most_members};
 ghost use Rattle.journal.specs.Entries.{members, entry_start};
 ghost use Rattle.journal.specs.Journal.{after, numbers as numbers_of};
+ghost use Rattle.journal.specs.Tabled.{work_links};
 ghost use Rattle.journal.specs.Calls.{count_of, out_length, work_entries, journal_refusal, SetWritten, JournalCall};
 
 use crate::entries::{check_header, count_of};
@@ -37,27 +38,22 @@ fn check_input(
     Ok(())
 }
 
-// The first `count` entries followed, and the links then present written; their number is returned.
-fn replay(
-    journal: &[u8],
-    count: usize,
-    out: &mut [u8],
-    numbers: &mut [u8],
-    work: &mut [u16],
-) -> usize
-    requires entries { entry_start count ≤ length journal.now }
+// The first entries followed, as many as numbers are asked for, and the links then present written; how many these are is returned.
+fn replay(journal: &[u8], out: &mut [u8], numbers: &mut [u8], work: &mut [[u16; 2]]) -> usize
+    requires entries { entry_start (length numbers.old) ≤ length journal.now }
     requires few { members journal.now ≤ most_members }
-    requires room { (out_length ≤ length out.old) × (count ≤ length numbers.old) × (work_entries ≤ length work.old) }
-    ensures present { SetWritten (members journal.now) (after journal.now count).present out.old out.new result }
-    ensures numbered { numbers.new ≡ numbers_of journal.now count ++ drop count numbers.old }
-    ensures work_length { length work.new ≡ length work.old }
+    requires room { (out_length ≤ length out.old) × (work_links ≤ length work.old) }
+    ensures present { SetWritten (members journal.now) (after journal.now (length numbers.old)).present out.old out.new result }
+    ensures numbered { numbers.new ≡ numbers_of journal.now (length numbers.old) }
 {
-    let tally = run(journal, count, work, numbers);
-    put_set(work, u16_at(journal, 5), tally.present.live, out);
-    tally.present.live
+    let tally = run(journal, work, numbers);
+    let live = tally.present.live;
+    put_set(&work[..live], u16_at(journal, 5), out);
+    live
 }
 
-// 02, wish 8: the journal. The work table is handed on without what lies past the entries that are needed.
+// 02, wish 8: the journal. The tables are handed on without what lies past the entries that are needed, the work table as links.
+#[tactic(auto, using(crate::proofs::Headers::accepted))]
 pub fn journal(
     journal: &[u8],
     asked: usize,
@@ -69,5 +65,6 @@ pub fn journal(
 {
     check_input(journal, asked, out.len(), numbers.len(), work.len())?;
     let count = count_of(journal, asked);
-    Ok(replay(journal, count, out, numbers, &mut work[0..WORK_LENGTH]))
+    let (links, _) = work[..WORK_LENGTH].as_chunks_mut::<2>();
+    Ok(replay(journal, out, &mut numbers[..count], links))
 }

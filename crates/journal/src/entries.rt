@@ -2,9 +2,8 @@
 ghost use Rattle.std.specs.Prelude.{◌≡◌, ◌+◌, ◌<◌, ◌≤◌, length, None, Some, IfErr, OnOk};
 ghost use Rattle.journal.specs.Entries.{entry_start, header_refusal, entry_of, entry_at};
 ghost use Rattle.journal.specs.Calls.{count_of};
-ghost use Rattle.journal.specs.Tabled.{name_of};
 
-use crate::Entry;
+use crate::{Entry, Name};
 use network::{MOST_MEMBERS, Refusal, is_marked, u16_at};
 
 // What the header and the length give: 1, 2, 3, 4 or 6, by other numbers than a network file's.
@@ -44,11 +43,11 @@ pub fn count_of(journal: &[u8], asked: usize) -> usize
 fn entry_of(kind: usize, a: usize, b: usize) -> Entry
     ensures { result ≡ entry_of kind a b }
 {
-    match kind {
-        0 => Entry::Add(a, b),
-        1 => Entry::Withdraw(a, b),
-        2 if a <= 3 && b == 0 => Entry::Save(a),
-        3 if a <= 3 && b == 0 => Entry::Restore(a),
+    match (kind, Name::new(a), b) {
+        (0, _, _) => Entry::Add(a, b),
+        (1, _, _) => Entry::Withdraw(a, b),
+        (2, Some(name), 0) => Entry::Save(name),
+        (3, Some(name), 0) => Entry::Restore(name),
         _ => Entry::Malformed,
     }
 }

@@ -4,6 +4,8 @@
 mod asks;
 mod copies;
 mod entries;
+mod members;
+mod names;
 mod refusals;
 mod runs;
 mod steps;
@@ -15,11 +17,8 @@ use network::MOST_LINKS;
 // 02: the length of the output, that of a file with the most links.
 pub const OUT_LENGTH: usize = 9 + 4 * MOST_LINKS;
 
-// The entries of a set of the most links, two a link.
-const SET_LENGTH: usize = 2 * MOST_LINKS;
-
-// 02: the length of the work table: the links present and four named states.
-pub const WORK_LENGTH: usize = 5 * SET_LENGTH;
+// 02: the length of the work table: the links present and four named states, each with the most links, two entries a link.
+pub const WORK_LENGTH: usize = 5 * 2 * MOST_LINKS;
 
 // An entry. A malformed one has a kind or a name above 3, or a last number of kind 2 or 3 that is not 0.
 #[derive(Clone, Copy, Debug, PartialEq, Eq)]
@@ -27,9 +26,9 @@ pub enum Entry {
     // kind 0 and 1: voucher and vouched
     Add(usize, usize),
     Withdraw(usize, usize),
-    // kind 2 and 3: the name of a state, to set it and to return to it; 02's names are numbers, by which the states are indexed
-    Save(usize),
-    Restore(usize),
+    // kind 2 and 3: the name of a state, to set it and to return to it
+    Save(Name),
+    Restore(Name),
     Malformed,
 }
 
@@ -61,3 +60,4 @@ pub struct Tally {
 }
 
 pub use asks::journal;
+pub use names::Name;

@@ -6,7 +6,7 @@ use crate::EntryRefusal;
 
 impl EntryRefusal {
     // 02: its number.
-    fn number(self) -> u8
+    pub fn number(self) -> u8
         ensures { result ≡ number_of self }
     {
         match self {

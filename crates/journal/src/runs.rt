@@ -1,31 +1,31 @@
-// A journal followed from its start.
-ghost use Rattle.std.specs.Prelude.{◌≡◌, ◌++◌, ◌≤◌, length, drop};
+// A journal followed from its start. How long the work table is has to be said, since it is lent (see `copies`).
+ghost use Rattle.std.specs.Prelude.{◌≡◌, ◌≤◌, length};
 ghost use Rattle.network.specs.File.{most_members};
 ghost use Rattle.journal.specs.Entries.{members, entry_start};
 ghost use Rattle.journal.specs.Journal.{after, numbers};
-ghost use Rattle.journal.specs.Calls.{work_entries};
-ghost use Rattle.journal.specs.Tabled.{Tabled};
+ghost use Rattle.journal.specs.Tabled.{work_links, Tabled};
 
 use crate::Tally;
 use crate::entries::entry_at;
+use crate::members::Members;
 use crate::refusals::number_told;
 use crate::steps::follow;
 use network::u16_at;
 
-// The first `count` entries followed: the number of each, and the table and the tally that they leave.
-pub fn run(journal: &[u8], count: usize, work: &mut [u16], results: &mut [u8]) -> Tally
-    requires entries { entry_start count ≤ length journal.now }
+// The first entries followed, as many as numbers are asked for: the number of each, and the table and the tally that they leave.
+pub fn run(journal: &[u8], work: &mut [[u16; 2]], results: &mut [u8]) -> Tally
+    requires entries { entry_start (length results.old) ≤ length journal.now }
     requires few { members journal.now ≤ most_members }
-    requires room { (work_entries ≤ length work.old) × (count ≤ length results.old) }
-    ensures tabled { Tabled (members journal.now) (after journal.now count) work.new result }
-    ensures numbered { results.new ≡ numbers journal.now count ++ drop count results.old }
-    ensures work_length { length work.new ≡ length work.old }
+    requires room { work_links ≤ length work.old }
+    ensures tabled { Tabled (members journal.now) (after journal.now (length results.old)) work.new result }
+    ensures numbered { results.new ≡ numbers journal.now (length results.old) }
 {
-    let order = u16_at(journal, 5);
-    let mut tally = Tally::new(order);
-    // The number names the entry too.
-    for i in 0..count {
-        results[i] = number_told(follow(work, &mut tally, order, entry_at(journal, i)));
+    let members = Members {
+        order: u16_at(journal, 5),
+    };
+    let mut tally = Tally::new(members.order);
+    for (i, result) in results.iter_mut().enumerate() {
+        *result = number_told(follow(work, &mut tally, members, entry_at(journal, i)));
     }
     tally
 }

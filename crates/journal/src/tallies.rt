@@ -1,10 +1,10 @@
 // The running totals (02, wish 9): one record, which each accepted entry updates in place.
 ghost use Rattle.std.specs.Prelude.{◌≡◌, ◌+◌, ◌<◌, ◌≤◌, Some, length, set};
-ghost use Rattle.network.specs.File.{most_links, most_members};
+ghost use Rattle.network.specs.File.{most_members, most_links};
 ghost use Rattle.journal.specs.Journal.{place_of};
 ghost use Rattle.journal.specs.Tabled.{begin, added, withdrawn, number_told};
 
-use crate::{EntryRefusal, Tally, Totals};
+use crate::{EntryRefusal, Name, Tally, Totals};
 use network::MOST_LINKS;
 
 // 02: each member is due so many vouches given,
@@ -69,6 +69,7 @@ impl Totals {
     }
 }
 
+// The steps are functions of the one record, which is lent to them (01 names the form); a method would be the same.
 // Kind 0.
 pub fn add(tally: &mut Tally, given: usize)
     requires live { tally.old.present.live ≤ most_links }
@@ -88,12 +89,11 @@ pub fn withdraw(tally: &mut Tally, given: usize)
 }
 
 // Kind 2: both totals become those of the name.
-pub fn save(tally: &mut Tally, name: usize)
-    requires name_in { name < 4 }
+pub fn save(tally: &mut Tally, name: Name)
     requires four { length tally.old.named ≡ 4 }
     ensures { tally.new ≡ record { present = tally.old.present; named = set tally.old.named name (Some tally.old.present) } }
 {
-    tally.named[name] = Some(tally.present);
+    tally.named[name.index()] = Some(tally.present);
 }
 
 // Kind 3: both totals become those of a named state.

@@ -1,5 +1,5 @@
-// A set of links in a table, written as a network file.
-ghost use Rattle.std.specs.Prelude.{◌≡◌, ◌*◌, ◌<◌, ◌≤◌, length};
+// A set of links, written as a network file.
+ghost use Rattle.std.specs.Prelude.{◌≡◌, ◌<◌, ◌≤◌, length};
 ghost use Rattle.std.proofs.lemmas.List.Edits.{sets};
 ghost use Rattle.graph.specs.Range.{flat};
 ghost use Rattle.network.specs.File.{most_links, link_at};
@@ -7,26 +7,26 @@ ghost use Rattle.journal.specs.Listed.{link_bytes, listed};
 
 use network::{link_at, put_edge, put_header};
 
-// Every link, one after the other.
-fn put_links(set: &[u16], size: usize, out: &mut [u8])
-    requires most { size ≤ most_links }
-    requires room { (2 * size ≤ length set.now) × (link_at size ≤ length out.old) }
-    ensures { out.new ≡ sets out.old 9 (flat (link_bytes set.now) size) }
+// Every link, one after the other: `put_edges` of calls writes those of a file, through the order of a side, and reads each end from bytes.
+#[tactic(auto, unfolding(graph::specs::Range::flat))]
+fn put_links(set: &[[u16; 2]], out: &mut [u8])
+    requires most { length set.now ≤ most_links }
+    requires room { link_at (length set.now) ≤ length out.old }
+    ensures { out.new ≡ sets out.old 9 (flat (link_bytes set.now) (length set.now)) }
 {
-    let (links, _) = set[..2 * size].as_chunks::<2>();
-    for (i, link) in links.iter().enumerate() {
+    for (i, link) in set.iter().enumerate() {
         let [source, target] = *link;
-        put_edge(out, link_at(i), usize::from(source), usize::from(target));
+        put_edge(out, link_at(i), source, target);
     }
 }
 
 // The file.
-pub fn put_set(set: &[u16], order: usize, size: usize, out: &mut [u8])
-    requires most { size ≤ most_links }
-    requires room { (2 * size ≤ length set.now) × (link_at size ≤ length out.old) }
+pub fn put_set(set: &[[u16; 2]], order: usize, out: &mut [u8])
+    requires most { length set.now ≤ most_links }
+    requires room { link_at (length set.now) ≤ length out.old }
     requires few { order < 65536 }
-    ensures { out.new ≡ sets out.old 0 (listed order set.now size) }
+    ensures { out.new ≡ sets out.old 0 (listed order set.now) }
 {
-    put_header(out, order, size);
-    put_links(set, size, out);
+    put_header(out, order as u16, set.len() as u16);
+    put_links(set, out);
 }

@@ -1,7 +1,6 @@
 -- How many links have a source: the difference of two places, each of which is sought near a place among these links.
 use Prim.Native.Nat.{ℕ, ◌+◌, ◌-◌, ◌<◌, ◌≤◌, min}
 use mathlib.Core.Bool.{Bool, true}
-use mathlib.Core.List.{List}
 use mathlib.Core.Logic.{◌⊎◌, inl, inr, ◌≢◌}
 use mathlib.Core.Path.{◌≡◌}
 use native.Mathlib.Decide.{dec_lt}
@@ -9,11 +8,12 @@ use native.Mathlib.Numerals.{add-one}
 use native.Mathlib.Omega.{arith}
 use borrow.Author.Tests.{eq-eqb, lt-ltb, le-ltb}
 use lib.Dec.{eqb, ltb}
+use lib.ListN.{length}
 use Rattle.std.proofs.lemmas.Bool.Decides.{nat_tests}
 use Rattle.graph.specs.Range.{sum, if}
 use Rattle.graph.proofs.Tests.{if-suc}
 use Rattle.graph.proofs.Sums.{sum-ext, sum-add, sum-after, sum-front, sum-none, sum_ones}
-use Rattle.linkset.specs.Tables.{source_at, Sorted, Parted, Place, Narrowed, earlier, degree_of, most_of_source}
+use Rattle.linkset.specs.Tables.{Pairs, source_at, Sorted, Parted, Place, Narrowed, earlier, degree_of, most_of_source}
 use Rattle.linkset.proofs.Places.{before-source, from-source, source-ascends}
 
 -- a test that holds of the first r of m numbers and of no other holds r times
@@ -43,39 +43,39 @@ sum-run test m d k l holds =
 if-next : (t u : ℕ) → if (ltb t (u + 1)) 1 ≡ if (ltb t u) 1 + if (eqb t u) 1
 if-next t u = rw (add-one u) (if-suc t u)
 
-module _ (l : List ℕ) (m u : ℕ) where
+module _ (l : Pairs) (u : ℕ) where
   -- the links of a source stand from where links have a source below it no more up to where they have one below the next
-  pub degree-between : (p q : ℕ) → Parted (earlier 1 l u 0) m p → Parted (earlier 1 l (u + 1) 0) m q → p + degree_of l m u ≡ q
+  pub degree-between : (p q : ℕ) → Parted (earlier 1 l u 0) (length l) p → Parted (earlier 1 l (u + 1) 0) (length l) q → p + degree_of l u ≡ q
   degree-between p q first past =
       omega (
         arith,
-        sum-parted (λ e. ltb (source_at l e) u) m p first,
-        sum-parted (λ e. ltb (source_at l e) (u + 1)) m q past,
-        sum-ext m (λ e k. if-next (source_at l e) u),
-        sum-add (λ e. if (ltb (source_at l e) u) 1) (λ e. if (eqb (source_at l e) u) 1) m,
+        sum-parted (λ e. ltb (source_at l e) u) (length l) p first,
+        sum-parted (λ e. ltb (source_at l e) (u + 1)) (length l) q past,
+        sum-ext (length l) (λ e k. if-next (source_at l e) u),
+        sum-add (λ e. if (ltb (source_at l e) u) 1) (λ e. if (eqb (source_at l e) u) 1) (length l),
       )
 
-  module _ (s : Sorted l m) (few : degree_of l m u ≤ most_of_source) where
+  module _ (s : Sorted l) (few : degree_of l u ≤ most_of_source) where
     -- two of them are not far apart
-    apart : (d e : ℕ) → d ≤ e → e < m → source_at l d ≡ u → source_at l e ≡ u → e < d + most_of_source
+    apart : (d e : ℕ) → d ≤ e → e < length l → source_at l d ≡ u → source_at l e ≡ u → e < d + most_of_source
     apart d e h k p q =
         omega (
           arith,
           few,
-          sum-run (λ i. eqb (source_at l i) u) m d (e - d + 1) (omega arith) (λ i f g.
-              eq-eqb _ u (omega (arith, source-ascends l m d i s f (omega arith), source-ascends l m i e s (omega arith) k))),
+          sum-run (λ i. eqb (source_at l i) u) (length l) d (e - d + 1) (omega arith) (λ i f g.
+              eq-eqb _ u (omega (arith, source-ascends l d i s f (omega arith), source-ascends l i e s (omega arith) k))),
         )
 
-    module _ (v r : ℕ) (at : Place l m u v r) where
+    module _ (v r : ℕ) (at : Place l u v r) where
       own-before : (e : ℕ) → e < r → source_at l e ≤ u
       own-before e h = before-source l u v e (at.before e h)
 
-      own-from : (e : ℕ) → r ≤ e → e < m → u ≤ source_at l e
+      own-from : (e : ℕ) → r ≤ e → e < length l → u ≤ source_at l e
       own-from e h k = from-source l u v e (at.from e h k)
 
       -- the first of them is sought where below no link is theirs, and past it each up to the place is
       begins : (low left : ℕ) → low + left ≤ r → ((e : ℕ) → e < low → source_at l e ≢ u) → ((e : ℕ) → low + left ≤ e → e < r → u ≤ source_at l e)
-          → Narrowed (earlier 1 l u 0) m low left
+          → Narrowed (earlier 1 l u 0) (length l) low left
       begins low left h other own = record {
         most = omega (arith, at.most);
         below = λ e k. lt-ltb _ u (omega (arith, own-before e (omega arith), other e k));
@@ -83,27 +83,27 @@ module _ (l : List ℕ) (m u : ℕ) where
       }
 
       -- so near the place, where the fourth before it is another's,
-      pub begins-near : (r < 4) ⊎ (source_at l (r - 4) ≢ u) → Narrowed (earlier 1 l u 0) m (r - 3) (r - (r - 3))
+      pub begins-near : (r < 4) ⊎ (source_at l (r - 4) ≢ u) → Narrowed (earlier 1 l u 0) (length l) (r - 3) (r - (r - 3))
       begins-near other = begins (r - 3) (r - (r - 3)) (omega arith) (past other) (λ e h k. absurd (omega arith))
         where
           past : (r < 4) ⊎ (source_at l (r - 4) ≢ u) → (e : ℕ) → e < r - 3 → source_at l e ≢ u
           past (inl k) e h q = omega arith
-          past (inr k) e h q = k (omega (arith, q, own-before (r - 4) (omega arith), source-ascends l m e (r - 4) s (omega arith) (omega (arith, at.most))))
+          past (inr k) e h q = k (omega (arith, q, own-before (r - 4) (omega arith), source-ascends l e (r - 4) s (omega arith) (omega (arith, at.most))))
 
       -- or farther off, where it is theirs
-      pub begins-far : 4 ≤ r → source_at l (r - 4) ≡ u → Narrowed (earlier 1 l u 0) m (r - most_of_source) (r - 4 - (r - most_of_source))
+      pub begins-far : 4 ≤ r → source_at l (r - 4) ≡ u → Narrowed (earlier 1 l u 0) (length l) (r - most_of_source) (r - 4 - (r - most_of_source))
       begins-far four own =
           begins (r - most_of_source) (r - 4 - (r - most_of_source)) (omega arith)
           (λ e h q. omega (
             arith,
             apart e (r - 1) (omega arith) (omega (arith, at.most)) q
-                (omega (arith, own-before (r - 1) (omega arith), source-ascends l m e (r - 1) s (omega arith) (omega (arith, at.most)))),
+                (omega (arith, own-before (r - 1) (omega arith), source-ascends l e (r - 1) s (omega arith) (omega (arith, at.most)))),
           ))
-          (λ e h k. omega (arith, own, source-ascends l m (r - 4) e s (omega arith) (omega (arith, at.most))))
+          (λ e h k. omega (arith, own, source-ascends l (r - 4) e s (omega arith) (omega (arith, at.most))))
 
       -- the last of them is sought where up to the place each is theirs, and past it none
-      ends : (low left : ℕ) → r ≤ low → low + left ≤ m → ((e : ℕ) → r ≤ e → e < low → source_at l e ≤ u) → ((e : ℕ) → low + left ≤ e → e < m → source_at l e ≢ u)
-          → Narrowed (earlier 1 l (u + 1) 0) m low left
+      ends : (low left : ℕ) → r ≤ low → low + left ≤ length l → ((e : ℕ) → r ≤ e → e < low → source_at l e ≤ u) → ((e : ℕ) → low + left ≤ e → e < length l → source_at l e ≢ u)
+          → Narrowed (earlier 1 l (u + 1) 0) (length l) low left
       ends low left h h' own other = record {
         most = h';
         below = λ e k. lt-ltb _ (u + 1) (elim (dec_lt e r) [ yes j ↦ omega (arith, own-before e j) | no j ↦ omega (arith, own e (omega arith) k) ]);
@@ -111,12 +111,12 @@ module _ (l : List ℕ) (m u : ℕ) where
       }
 
       -- near the place,
-      pub ends-near : (m < r + 4) ⊎ (source_at l (r + 3) ≢ u) → Narrowed (earlier 1 l (u + 1) 0) m r (min m (r + 3) - r)
+      pub ends-near : (length l < r + 4) ⊎ (source_at l (r + 3) ≢ u) → Narrowed (earlier 1 l (u + 1) 0) (length l) r (min (length l) (r + 3) - r)
       ends-near other = grind (arith, nat_tests)
 
       -- or farther off
-      pub ends-far : r + 4 ≤ m → source_at l (r + 3) ≡ u → Narrowed (earlier 1 l (u + 1) 0) m (r + 4) (min m (r + most_of_source) - (r + 4))
+      pub ends-far : r + 4 ≤ length l → source_at l (r + 3) ≡ u → Narrowed (earlier 1 l (u + 1) 0) (length l) (r + 4) (min (length l) (r + most_of_source) - (r + 4))
       ends-far four own =
-          ends (r + 4) (min m (r + most_of_source) - (r + 4)) (omega arith) (omega arith)
-          (λ e k i. omega (arith, own, source-ascends l m e (r + 3) s (omega arith) (omega arith)))
-          (λ e k j q. omega (arith, apart r e (omega arith) j (omega (arith, q, own-from r (omega arith) (omega arith), source-ascends l m r e s (omega arith) j)) q))
+          ends (r + 4) (min (length l) (r + most_of_source) - (r + 4)) (omega arith) (omega arith)
+          (λ e k i. omega (arith, own, source-ascends l e (r + 3) s (omega arith) (omega arith)))
+          (λ e k j q. omega (arith, apart r e (omega arith) j (omega (arith, q, own-from r (omega arith) (omega arith), source-ascends l r e s (omega arith) j)) q))

@@ -1,7 +1,10 @@
-// A set of links in a table of numbers: the links ascend by source, then target, and each takes two entries.
+// A set of links as a slice of exactly its links, each its source, then its target: they ascend by source, then target.
+// That they ascend is asked at each call: the slice is lent anew after each entry, and a struct round it would be made anew with the same fact to
+// be shown.
 #![tactic(auto)]
 
-ghost use Rattle.std.specs.Prelude.{ℕ, ◌≡◌, ◌+◌, ◌*◌, ◌<◌, ◌≤◌, length};
+ghost use Rattle.std.specs.Prelude.{ℕ, ◌≡◌, ◌+◌, ◌-◌, ◌<◌, ◌≤◌, [], ◌∷◌, ◌++◌, length, take, drop};
+ghost use Rattle.std.specs.List.{insert, remove};
 ghost use Rattle.graph.specs.Range.{if};
 ghost use Rattle.linkset.specs.Tables.{
   source_at,
@@ -17,8 +20,6 @@ ghost use Rattle.linkset.specs.Tables.{
   quarter_of,
   told,
   passed,
-  Inserted,
-  Removed,
 };
 
 // The most links of one source in a set of which a degree is asked for.
@@ -29,40 +30,31 @@ const SOURCE: usize = 1;
 
 const BOTH: usize = 2;
 
-// A link, from its source to its target.
-#[derive(Clone, Copy, Debug, PartialEq, Eq)]
+// A link, from its source to its target. Links are compared by source, then by target: in the order of the fields.
+#[derive(Clone, Copy, Debug, PartialEq, Eq, PartialOrd, Ord)]
 pub struct Link {
     pub source: u16,
     pub target: u16,
 }
 
-// A link as one number, by which links are compared: by source, then by target. In a derived order they compare more slowly.
-fn key(link: Link) -> u32
-    ensures { result ≡ 65536 * link.source + link.target }
-{
-    65536 * u32::from(link.source) + u32::from(link.target)
-}
-
 // Link `i` of a set.
-fn link_of(set: &[u16], i: usize) -> Link
-    requires { 2 * i + 1 < length set.now }
+fn link_of(set: &[[u16; 2]], i: usize) -> Link
+    requires { i < length set.now }
     ensures { result ≡ record { source = source_at set.now i; target = target_at set.now i } }
 {
-    Link {
-        source: set[2 * i],
-        target: set[2 * i + 1],
-    }
+    let [source, target] = set[i];
+    Link { source, target }
 }
 
 // Whether link `i` of a set comes before another; by sources alone, whether its own is less.
-fn comes_before<const ENDS: usize>(set: &[u16], i: usize, link: Link) -> bool
-    requires { 2 * i + 1 < length set.now }
+fn comes_before<const ENDS: usize>(set: &[[u16; 2]], i: usize, link: Link) -> bool
+    requires { i < length set.now }
     ensures { result ≡ earlier ENDS set.now link.source link.target i }
 {
     if ENDS == SOURCE {
-        return set[2 * i] < link.source;
+        return set[i][0] < link.source;
     }
-    key(link_of(set, i)) < key(link)
+    link_of(set, i) < link
 }
 
 // A quarter of so many links, where a link is left out between each two.
@@ -80,7 +72,8 @@ fn told(left: usize) -> usize
     if left < 3 { 1 } else { 3 * quarter_of(left) }
 }
 
-// So many, or none. It is made without a branch: which of the two comes could not be foretold. A product with `usize::from` is slower.
+// So many, or none. It is made without a branch: which of the two comes could not be foretold. A product with `usize::from` would be no
+// plainer.
 fn counted(holds: bool, many: usize) -> usize
     ensures { result ≡ if holds many }
 {
@@ -88,9 +81,9 @@ fn counted(holds: bool, many: usize) -> usize
 }
 
 // How many of these are told to come before it: the quarters by the three links between them, which are read side by side.
-fn passed<const ENDS: usize>(set: &[u16], low: usize, left: usize, link: Link) -> usize
+fn passed<const ENDS: usize>(set: &[[u16; 2]], low: usize, left: usize, link: Link) -> usize
     requires some { 0 < left }
-    requires room { 2 * (low + left) ≤ length set.now }
+    requires room { low + left ≤ length set.now }
     ensures count { result ≡ passed (earlier ENDS set.now link.source link.target) low left }
     ensures most { result ≤ told left }
 {
@@ -104,12 +97,12 @@ fn passed<const ENDS: usize>(set: &[u16], low: usize, left: usize, link: Link) -
         + counted(comes_before::<ENDS>(set, last + 2 * quarter, link), quarter)
 }
 
-// How many links come before the one sought, where those below `low` do and those past `left` from there on do not. `partition_point` takes twice
-// as long.
-fn search<const ENDS: usize>(set: &[u16], low: usize, left: usize, link: Link) -> usize
-    requires room { 2 * (low + left) ≤ length set.now }
-    ensures { (m : ℕ) → Sorted set.now m → Narrowed (earlier ENDS set.now link.source link.target) m low left
-        → Parted (earlier ENDS set.now link.source link.target) m result }
+// How many links come before the one sought, where those below `low` do and those past `left` from there on do not. By
+// `partition_point`, which takes twice as long, the journal would miss its goal.
+fn search<const ENDS: usize>(set: &[[u16; 2]], low: usize, left: usize, link: Link) -> usize
+    requires room { low + left ≤ length set.now }
+    ensures { Sorted set.now → Narrowed (earlier ENDS set.now link.source link.target) (length set.now) low left
+        → Parted (earlier ENDS set.now link.source link.target) (length set.now) result }
 {
     let mut low = low;
     let mut left = left;
@@ -120,24 +113,23 @@ fn search<const ENDS: usize>(set: &[u16], low: usize, left: usize, link: Link) -
     low
 }
 
-// The place of a link in a set of `size` links: how many of them come before it.
-pub fn place(set: &[u16], size: usize, link: Link) -> usize
-    requires room { 2 * size ≤ length set.now }
-    requires sorted { Sorted set.now size }
-    ensures { Place set.now size link.source link.target result }
+// The place of a link in a set: how many of them come before it.
+pub fn place(set: &[[u16; 2]], link: Link) -> usize
+    requires sorted { Sorted set.now }
+    ensures { Place set.now link.source link.target result }
 {
-    search::<BOTH>(set, 0, size, link)
+    search::<BOTH>(set, 0, set.len(), link)
 }
 
 // Where the links of a source begin, by a place among them: at most three before it, or if the fourth has the source too, which is seldom,
 // at most 64.
-fn begin_of(set: &[u16], place: usize, source: u16) -> usize
-    requires room { 2 * place ≤ length set.now }
-    ensures { (m : ℕ) → Sorted set.now m → degree_of set.now m source ≤ most_of_source → (v : ℕ) → Place set.now m source v place
-        → Parted (earlier 1 set.now source 0) m result }
+fn begin_of(set: &[[u16; 2]], place: usize, source: u16) -> usize
+    requires place_in { place ≤ length set.now }
+    ensures { Sorted set.now → degree_of set.now source ≤ most_of_source → (v : ℕ) → Place set.now source v place
+        → Parted (earlier 1 set.now source 0) (length set.now) result }
 {
     let first = Link { source, target: 0 };
-    if 4 <= place && set[2 * (place - 4)] == source {
+    if 4 <= place && set[place - 4][0] == source {
         let low = place.saturating_sub(MOST_OF_SOURCE);
         return search::<SOURCE>(set, low, place - 4 - low, first);
     }
@@ -146,18 +138,18 @@ fn begin_of(set: &[u16], place: usize, source: u16) -> usize
 }
 
 // And where they end.
-fn end_of(set: &[u16], size: usize, place: usize, source: u16) -> usize
-    requires room { 2 * size ≤ length set.now }
-    requires place_in { place ≤ size }
+fn end_of(set: &[[u16; 2]], place: usize, source: u16) -> usize
+    requires place_in { place ≤ length set.now }
     requires fits { source < 65535 }
-    ensures { Sorted set.now size → degree_of set.now size source ≤ most_of_source → (v : ℕ) → Place set.now size source v place
-        → Parted (earlier 1 set.now (source + 1) 0) size result }
+    ensures { Sorted set.now → degree_of set.now source ≤ most_of_source → (v : ℕ) → Place set.now source v place
+        → Parted (earlier 1 set.now (source + 1) 0) (length set.now) result }
 {
     let next = Link {
         source: source + 1,
         target: 0,
     };
-    if place + 4 <= size && set[2 * (place + 3)] == source {
+    let size = set.len();
+    if place + 4 <= size && set[place + 3][0] == source {
         let low = place + 4;
         return search::<SOURCE>(set, low, size.min(place + MOST_OF_SOURCE) - low, next);
     }
@@ -165,46 +157,41 @@ fn end_of(set: &[u16], size: usize, place: usize, source: u16) -> usize
 }
 
 // How many links of a set have a source, by a place among them: on either side of it their end is sought, in few links.
-pub fn degree(set: &[u16], size: usize, place: usize, source: u16) -> usize
-    requires room { 2 * size ≤ length set.now }
-    requires sorted { Sorted set.now size }
+pub fn degree(set: &[[u16; 2]], place: usize, source: u16) -> usize
+    requires sorted { Sorted set.now }
     requires fits { source < 65535 }
-    requires among { (v : ℕ) × Place set.now size source v place }
-    requires few { degree_of set.now size source ≤ most_of_source }
-    ensures { result ≡ degree_of set.now size source }
+    requires among { (v : ℕ) × Place set.now source v place }
+    requires few { degree_of set.now source ≤ most_of_source }
+    ensures { result ≡ degree_of set.now source }
 {
     let begin = begin_of(set, place, source);
-    end_of(set, size, place, source) - begin
+    end_of(set, place, source) - begin
 }
 
 // Whether a link is at a place.
-pub fn is_at(set: &[u16], size: usize, place: usize, link: Link) -> bool
-    requires { 2 * size ≤ length set.now }
-    ensures { result ≡ is_at set.now size place link.source link.target }
+pub fn is_at(set: &[[u16; 2]], place: usize, link: Link) -> bool
+    ensures { result ≡ is_at set.now place link.source link.target }
 {
-    place < size && link_of(set, place) == link
+    place < set.len() && link_of(set, place) == link
 }
 
-// A link put in at a place, the later ones moved up by one. They are lent by themselves, and the distance is a number: so the compiler makes it one
-// move of memory.
-pub fn insert(set: &mut [u16], size: usize, place: usize, link: Link)
-    requires place_in { place ≤ size }
-    requires room { 2 * size + 2 ≤ length set.old }
-    ensures { Inserted set.old set.new size place link.source link.target }
+// A link put in at a place of a set, which is lent with room for one more behind it. The later links are moved up by one. They are lent by themselves,
+// and the distance is a number: so the compiler makes it one move of memory.
+pub fn insert(set: &mut [[u16; 2]], place: usize, link: Link)
+    requires { place < length set.old }
+    ensures { set.new ≡ insert (take (length set.old - 1) set.old) place (link.source ∷ link.target ∷ []) }
 {
-    let part = &mut set[2 * place..2 * size + 2];
-    let moved = part.len() - 2;
-    part.copy_within(..moved, 2);
-    part[0] = link.source;
-    part[1] = link.target;
+    let part = &mut set[place..];
+    let moved = part.len() - 1;
+    part.copy_within(..moved, 1);
+    part[0] = [link.source, link.target];
 }
 
-// The link at a place taken out, the later ones moved down by one.
-pub fn remove(set: &mut [u16], size: usize, place: usize)
-    requires place_in { place < size }
-    requires room { 2 * size ≤ length set.old }
-    ensures { Removed set.old set.new size place }
+// The link at a place taken out, the later ones moved down by one. The last one stays where it was too.
+pub fn remove(set: &mut [[u16; 2]], place: usize)
+    requires { place < length set.old }
+    ensures { set.new ≡ remove set.old place ++ drop (length set.old - 1) set.old }
 {
-    let part = &mut set[2 * place..2 * size];
-    part.copy_within(2.., 0);
+    let part = &mut set[place..];
+    part.copy_within(1.., 0);
 }

@@ -1,18 +1,19 @@
 -- The bytes of a group: each is 0 or 1, one for each member, and the same group again; groups of everyone; and when two counts are the same.
-use Prim.Native.Nat.{ℕ, ◌<◌, ◌≤◌}
-use mathlib.Core.Bool.{Bool, true, false}
+use Prim.Native.Nat.{ℕ, ◌-◌, ◌<◌, ◌≤◌}
+use mathlib.Core.Bool.{Bool, true, false, ◌&&◌}
 use mathlib.Core.List.{List}
-use mathlib.Core.Path.{◌≡◌, refl, ap}
+use mathlib.Core.Path.{◌≡◌, refl, ap, ◌∙◌}
 use native.Mathlib.Decide.{dec_le}
 use native.Mathlib.Omega.{arith}
 use borrow.Author.Tests.{lt-ltb, le-ltb, eq-eqb, eqb-true}
 use lib.Dec.{eqb, ltb}
 use mir.Val.{bool_byte}
-use lib.ListN.{length, get_or, drop, length-append}
+use lib.ListN.{length, get_or, take, drop, length-append, length-take}
+use Rattle.std.proofs.lemmas.List.{get_or-take}
 use Rattle.graph.specs.Range.{if}
 use Rattle.graph.specs.Graph.{Graph, Group, everyone}
 use Rattle.graph.specs.Shapes.{Same}
-use Rattle.graph.proofs.Ranges.{length-table, get_or-table, first_some, first-none}
+use Rattle.graph.proofs.Ranges.{length-table, get_or-table, first_some, first-none, first-ext}
 use Rattle.network.specs.declared.Totals.{Totals}
 use Rattle.network.specs.Groups.{group_of, is_group, AllIn, Among, bytes_of, GroupIn}
 
@@ -52,6 +53,22 @@ group_of-bytes_of n S u l = rw (get_or-bytes_of n S u l) (test (S u))
 -- a table that begins with a group has a byte for each member
 pub group-long : (n : ℕ) (s : List ℕ) {s' : List ℕ} → GroupIn n s s' → n ≤ length s'
 group-long n s {s'} e = omega (arith, ap length e, length-append (bytes_of n (group_of s')) (drop n s), length-bytes_of n (group_of s'))
+
+-- a table cut to its first bytes has the same members
+pub cut-same : (g : Graph) (n : ℕ) (s : List ℕ) → g.order ≤ n → Same g (group_of (take n s)) (group_of s)
+cut-same g n s l u m = ap (λ b. eqb b 1) (get_or-take n s u 0 (omega arith))
+
+-- and its bytes are those of a group where these are
+pub cut-group : {k n : ℕ} (s : List ℕ) → k ≡ n → n ≤ length s → is_group (length (take k s)) (take k s) ≡ is_group n s
+cut-group {k} {n} s e l =
+    let is : length (take k s) ≡ n = omega (arith, length-take {A = ℕ}) in
+    rw is (ap (λ i. eqb i n) (first-ext (λ u. ltb 1 (get_or (take k s) u 0)) (λ u. ltb 1 (get_or s u 0)) n (λ u m. ap (ltb 1) (get_or-take k s u 0 (omega arith)))))
+
+-- so of two tables
+pub groups_cut : (n : ℕ) (s t : List ℕ) → n ≤ length s → n ≤ length t
+    → (is_group (length (take (n - 0) s)) (take (n - 0) s) && is_group (length (take (n - 0) t)) (take (n - 0) t)) ≡ (is_group n s && is_group n t)
+groups_cut n s t p q =
+    ap (λ b. b && is_group (length (take (n - 0) t)) (take (n - 0) t)) (cut-group s (omega arith) p) ∙ ap (λ b. is_group n s && b) (cut-group t (omega arith) q)
 
 -- what holds inside two groups, and for any with the same members too, holds among everyone where they are everyone
 pub among : (g : Graph) (a b : List ℕ) {holds : Group → Group → Type 0} → ((A B : Group) → Same g (group_of a) A → Same g (group_of b) B → holds A B)

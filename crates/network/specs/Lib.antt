@@ -1,4 +1,5 @@
 pub mod File
+pub mod Small
 pub mod Groups
 pub mod Bytes
 pub mod Refusals

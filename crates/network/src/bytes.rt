@@ -1,15 +1,15 @@
 // A network file, written: its header and its edges, from numbers.
-ghost use Rattle.std.specs.Prelude.{◌≡◌, ◌+◌, ◌<◌, ◌≤◌, length};
+ghost use Rattle.std.specs.Prelude.{◌≡◌, ◌+◌, ◌≤◌, length};
 ghost use Rattle.std.proofs.lemmas.List.Edits.{sets};
 ghost use Rattle.network.specs.Bytes.{u16, header, edge_bytes};
 ghost use Rattle.network.specs.File.{mark};
 
-// A number of 16 bits at a byte, low byte first.
-fn put(out: &mut [u8], at: usize, number: usize)
-    requires { (at + 2 ≤ length out.old) × (number < 65536) }
+// A number at a byte, low byte first.
+fn put(out: &mut [u8], at: usize, number: u16)
+    requires { at + 2 ≤ length out.old }
     ensures { out.new ≡ sets out.old at (u16 number) }
 {
-    out[at..at + 2].copy_from_slice(&(number as u16).to_le_bytes());
+    out[at..at + 2].copy_from_slice(&number.to_le_bytes());
 }
 
 fn put_mark(out: &mut [u8])
@@ -20,9 +20,8 @@ fn put_mark(out: &mut [u8])
 }
 
 // Mark, version, n and m.
-pub fn put_header(out: &mut [u8], order: usize, size: usize)
-    requires room { 9 ≤ length out.old }
-    requires fits { (order < 65536) × (size < 65536) }
+pub fn put_header(out: &mut [u8], order: u16, size: u16)
+    requires { 9 ≤ length out.old }
     ensures { out.new ≡ sets out.old 0 (header order size) }
 {
     put_mark(out);
@@ -32,9 +31,8 @@ pub fn put_header(out: &mut [u8], order: usize, size: usize)
 }
 
 // An edge: source, then target.
-pub fn put_edge(out: &mut [u8], at: usize, source: usize, target: usize)
-    requires room { at + 4 ≤ length out.old }
-    requires fits { (source < 65536) × (target < 65536) }
+pub fn put_edge(out: &mut [u8], at: usize, source: u16, target: u16)
+    requires { at + 4 ≤ length out.old }
     ensures { out.new ≡ sets out.old at (edge_bytes source target) }
 {
     put(out, at, source);

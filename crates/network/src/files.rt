@@ -1,4 +1,5 @@
-// A network file, read: its header and the ends of its edges.
+// A network file, read: its header and the ends of its edges. A file's bytes and the place of one are told apart: nothing is known of both together.
+// What is read is a `usize` that fits 16 bits, since nearly all who read it index by it: of a `u16` each would make one.
 ghost use Rattle.std.specs.Prelude.{◌≡◌, ◌+◌, ◌*◌, ◌<◌, ◌≤◌, length, get_or};
 ghost use Rattle.network.specs.File.{u16_at, link_at, graph_of, marked};
 ghost use Rattle.network.specs.Accepted.{Holds};

@@ -1,9 +1,12 @@
 // The network file: what its bytes mean, how they are read and written, and the numbers by which a call refuses its input.
 #![tactic(auto)]
 
+ghost use Rattle.network.specs.Small.{Small};
+
 mod bytes;
 mod files;
 mod refusals;
+mod tested;
 
 // 01: the most members and links of a network, and the length of the work table for such a one.
 pub const MOST_MEMBERS: usize = 2048;
@@ -39,11 +42,12 @@ pub enum Refusal {
     Order { link: u16 },
 }
 
-// n and m.
+// n and m, which are small: so every entry of the work table fits.
 #[derive(Clone, Copy, Debug, PartialEq, Eq)]
 pub struct Extent {
     pub order: usize,
     pub size: usize,
+    pub ghost small: { Small order size },
 }
 
 // 01: E, |S| and |T|.
@@ -63,3 +67,4 @@ pub enum Side {
 
 pub use bytes::{put_edge, put_header};
 pub use files::{end_at, is_marked, link_at, order_of, size_of, u16_at, work_length};
+pub use tested::{AcceptedFile, ReadableFile, SoundFile};

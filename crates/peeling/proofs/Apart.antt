@@ -5,7 +5,6 @@ use mathlib.Core.List.{List}
 use mathlib.Core.Logic.{◌⊎◌, inl, inr, ⊎_elim}
 use mathlib.Core.Path.{◌≡◌, sym, ap, ◌∙◌}
 use native.Mathlib.Omega.{arith}
-use native.Mathlib.Decide.{dec_lt}
 use native.Mathlib.Nat.{two-mul, zero-add}
 use Rattle.graph.specs.Range.{sum, if}
 use Rattle.graph.specs.Graph.{Graph, Group}
@@ -18,18 +17,15 @@ use Rattle.peeling.specs.Recounts.{SideAt, OnSide}
 
 -- the other side is a side
 pub side-other : {n first : ℕ} → SideAt n first → SideAt n (n - first)
-side-other (inl e) = inr (omega arith)
-side-other (inr e) = inl (omega arith)
+side-other s = grind arith
 
 -- a place of a side is a place
 pub side-place : {n first : ℕ} → SideAt n first → {p : ℕ} → OnSide n first p → p < 2 * n
-side-place (inl e) (a, b) = omega arith
-side-place (inr e) (a, b) = omega arith
+side-place s o = grind arith
 
 -- and every place is on one of the two
 pub side-either : {n first : ℕ} → SideAt n first → (p : ℕ) → p < 2 * n → OnSide n first p ⊎ OnSide n (n - first) p
-side-either {n} (inl e) p l = elim (dec_lt p n) [ yes h ↦ inl (omega arith, omega arith) | no h ↦ inr (omega arith, omega arith) ]
-side-either {n} (inr e) p l = elim (dec_lt p n) [ yes h ↦ inr (omega arith, omega arith) | no h ↦ inl (omega arith, omega arith) ]
+side-either s p l = grind arith
 
 -- what counts nothing on the other side adds up over this one
 side-sum : {n first : ℕ} → SideAt n first → (f : ℕ → ℕ) → ((q : ℕ) → OnSide n (n - first) q → f q ≡ 0) → sum f (2 * n) ≡ sum (λ i. f (first + i)) n

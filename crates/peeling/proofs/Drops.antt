@@ -4,24 +4,18 @@ use Prim.Native.Nat.{ℕ, ◌+◌, ◌*◌, ◌<◌}
 use mathlib.Core.Bool.{true}
 use mathlib.Core.List.{List}
 use mathlib.Core.Logic.{◌≢◌}
-use mathlib.Core.Path.{◌≡◌, refl, sym, ◌∙◌}
-use native.Mathlib.Decide.{ℕ_discrete, dec_le}
+use mathlib.Core.Path.{◌≡◌, refl}
+use native.Mathlib.Decide.{ℕ_discrete}
 use native.Mathlib.Nat.{le_refl}
 use native.Mathlib.Omega.{arith}
-use borrow.Author.Tests.{le-leb, lt-leb, eq-eqb, ne_eqb}
+use Rattle.std.proofs.lemmas.Bool.Decides.{nat_tests}
+use borrow.Author.Tests.{le-leb, eq-eqb, ne_eqb}
 use lib.Dec.{leb}
 use Rattle.peeling.specs.declared.Peel.{Peel}
 use Rattle.peeling.specs.Peeling.{row_length, degree_of, queue_of, Queued, Dropping, Kept, Pushable, pushed, with_queued, lowered_peel, lowered_table}
 use Rattle.peeling.proofs.Pushes.{Step, queued-room, queued-stays, queued-grows, full-keeps, full-degree, full-queue}
 use Rattle.peeling.proofs.Totals.{total_kept}
 use Rattle.peeling.proofs.Losses.{other, drop-inside, less, less-keeps, less-queue, less-same, less_other, less-least, passed}
-
--- a number that is not c is at least c exactly when the number before it is
-spare : (a b c : ℕ) → b + 1 ≡ a → a ≢ c → leb c a ≡ leb c b
-spare a b c e h = elim (dec_le c b) [ yes g ↦ le-leb c a (omega arith) ∙ sym (le-leb c b g) | no g ↦ lt-leb c a (below (omega arith)) ∙ sym (lt-leb c b (omega arith)) ]
-  where
-    below : b < c → a < c
-    below g = elim (ℕ_discrete a c) [ yes q ↦ absurd (h q) | no q ↦ omega arith ]
 
 module _ {n m : ℕ} {need : ℕ → ℕ} {w : List ℕ} {s : Peel} {place k : ℕ} (d : Dropping n m need w s place k) (l : k < row_length w place) where
   -- the place that loses an edge
@@ -51,11 +45,7 @@ module _ {n m : ℕ} {need : ℕ → ℕ} {w : List ℕ} {s : Peel} {place k : �
     where
       -- no place has become short
       enough : (p : ℕ) → p < 2 * n → leb (need p) (degree_of n m w p) ≡ leb (need p) (degree_of n m (less d l) p)
-      enough p b =
-          elim (ℕ_discrete p loser) [
-            | yes e ↦ rw e (spare (degree_of n m w loser) (degree_of n m (less d l) loser) (need loser) (less-same d l) h)
-            | no e ↦ rw (less_other d l p e)
-          ]
+      enough p b = grind (arith, nat_tests, less-same d l, less_other d l p)
 
   -- one that has none
   module _ (e : degree_of n m w loser ≡ need loser) where
@@ -103,4 +93,4 @@ module _ {n m : ℕ} {need : ℕ → ℕ} {w : List ℕ} {s : Peel} {place k : �
 -- no head moves when a place is lowered
 pub lowered-head : (n m : ℕ) (need : ℕ → ℕ) (w : List ℕ) (s : Peel) (place : ℕ) → (lowered_peel n m need w s place).head ≡ s.head
 lowered-head n m need w s place =
-    elim (ℕ_discrete (degree_of n m w place) (need place)) [ yes e ↦ rw (eq-eqb _ _ e) | no e ↦ rw (ne_eqb _ _ e) ]
+    grind (arith, nat_tests)

@@ -1,11 +1,12 @@
 -- What a peel of a graph's rows leaves holds every settled set: where a side of it is empty, the core is. When the peel has run to its end no
 -- place that is left is short, and they are the core. Its sizes are those of the core's two groups.
 use Prim.Native.Nat.{ℕ, ◌+◌, ◌*◌, ◌<◌, ◌≤◌}
-use mathlib.Core.Bool.{true, false, false≢true}
+use mathlib.Core.Bool.{true, false}
 use mathlib.Core.List.{List}
 use mathlib.Core.Path.{◌≡◌, sym, ◌∙◌}
 use native.Mathlib.Omega.{arith}
-use borrow.Author.Tests.{leb-true, eqb-false, ne_eqb}
+use Rattle.std.proofs.lemmas.Bool.Decides.{nat_tests}
+use borrow.Author.Tests.{leb-true}
 use lib.Dec.{leb}
 use Rattle.graph.specs.Graph.{Graph, Group}
 use Rattle.graph.specs.Shapes.{Closed}
@@ -16,22 +17,16 @@ use Rattle.graph.specs.Cover.{joined, need}
 use Rattle.graph.proofs.Degrees.{card_mono}
 use Rattle.graph.proofs.Links.{degree-links, surrounds-links}
 use Rattle.graph.proofs.Cover.{surrounds-covers, settled-core, need-source, need-target}
-use Rattle.network.proofs.Accepted.{or-fails}
 use Rattle.peeling.specs.declared.Peel.{Peel}
 use Rattle.peeling.specs.Peeling.{degree_of, between, left, Indexed, Peeling, emptied}
 
 -- a side is empty by the test, or neither is
 pub sides-some : (s : Peel) → emptied s ≡ false → (1 ≤ s.sources) × (1 ≤ s.targets)
-sides-some s h =
-    let (p, q) = (or-fails _ _).0 h in
-    (one s.sources (eqb-false _ 0 p), one s.targets (eqb-false _ 0 q))
-  where
-    one : (k : ℕ) → ¬ (k ≡ 0) → 1 ≤ k
-    one k h = omega arith
+sides-some s h = grind (arith, nat_tests)
 
 -- where one is, not both have somebody
 pub sides-none : (s : Peel) → emptied s ≡ true → ¬ ((1 ≤ s.sources) × (1 ≤ s.targets))
-sides-none s h (p, q) = false≢true (sym ((or-fails _ _).1 (ne_eqb s.sources 0 (λ e. omega arith), ne_eqb s.targets 0 (λ e. omega arith))) ∙ h)
+sides-none s h (p, q) = grind (arith, nat_tests)
 
 module _ {g : Graph} (x y : ℕ) {m : ℕ} {w : List ℕ} {s : Peel} (c : Closed g) (i : Indexed g m w) (k : Peeling g.order m (need g.order x y) w s) where
   -- the places that are left

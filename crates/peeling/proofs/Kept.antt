@@ -89,5 +89,5 @@ pub tabled-kept : {g : Graph} {n m : ℕ} {w w' : List ℕ} → Tabled g n m w �
 tabled-kept t k = record { closed = t.closed; indexed = indexed-kept t.indexed (rw t.order k); order = t.order }
 
 -- a peel has come to its end from every table whose rows its table keeps
-pub ended-from : {drain : Bool} {c : Scope} {v w w' : List ℕ} {s : Peel} → Ended drain c w w' s → Kept c.order c.size v w' → Ended drain c v w' s
+pub ended-from : {drain : Bool} {c : Scope} {v w w' : List ℕ} {s : Peel} → Ended drain c w w' s → Kept c.extent.order c.extent.size v w' → Ended drain c v w' s
 ended-from e k = record { peeling = e.peeling; drained = e.drained; done = e.done; kept = k }

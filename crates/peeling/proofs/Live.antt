@@ -24,10 +24,7 @@ live-ext (suc h) e p = rw (e h (omega arith), live-ext h (λ i l. e i (omega ari
 -- what is live was live before
 pub live-before : (queue : ℕ → ℕ) {h : ℕ} (t : ℕ) → h ≤ t → (p : ℕ) → live queue t p ≡ true → live queue h p ≡ true
 unfolding live
-live-before queue {h} zero l p e = rw (zero-below l) e
-  where
-    zero-below : {k : ℕ} → k ≤ 0 → k ≡ 0
-    zero-below l = omega arith
+live-before queue {h} zero l p e = let none : h ≡ 0 = omega arith in rw none e
 live-before queue {h} (suc t) l p e =
     below_suc {i = h} {n = suc t} (omega arith) (λ q. rw q e) (λ k. live-before queue {h = h} t (omega arith) p (and_right (not (eqb p (queue t))) _ e))
 

@@ -6,18 +6,18 @@ use mathlib.Core.Bool.{true, not}
 use mathlib.Core.List.{List}
 use mathlib.Core.Logic.{◌≢◌, inl, inr}
 use mathlib.Core.Path.{◌≡◌, refl, sym, ap}
-use native.Mathlib.Decide.{ℕ_discrete, dec_lt}
 use native.Mathlib.Numerals.{add-one}
 use native.Mathlib.Omega.{arith}
-use borrow.Author.Tests.{lt-ltb, le-ltb, eq-eqb}
+use Rattle.std.proofs.lemmas.Bool.Decides.{nat_tests}
 use lib.Dec.{eqb, ltb}
 use Rattle.graph.specs.Range.{sum, if}
 use Rattle.graph.proofs.Monotone.{sum-part}
-use Rattle.graph.proofs.Tests.{if-same, if-other}
+use Rattle.graph.proofs.Tests.{if-same}
 use Rattle.graph.proofs.Degrees.{without}
 use Rattle.graph.proofs.Linkage.{degree-without, degree-same}
 use Rattle.peeling.specs.declared.Peel.{Peel}
 use Rattle.peeling.specs.Peeling.{start_of, row_length, row_entry, degree_of, queue_of, entries, between, live, standing, Peeling, Dropping, Kept, undropped, past, with_degree}
+use Rattle.peeling.specs.Recounts.{SideAt, OnSide}
 use Rattle.peeling.proofs.Live.{live-suc}
 use Rattle.peeling.proofs.Tables.{with-degree-same, with-degree-other, with-degree-queue}
 use Rattle.peeling.proofs.Kept.{kept_set, between-kept, entries-kept, degree-kept}
@@ -98,17 +98,10 @@ module _ {n m : ℕ} {need : ℕ → ℕ} {w : List ℕ} {s : Peel} {place k : �
 
   -- so it is of the other side
   pub drop-across : ltb other n ≡ not (ltb place n)
-  drop-across =
-      elim (dec_lt place n) [
-        | yes a ↦ elim (dec_lt other n) [
-          | yes b ↦ absurd (omega (arith, unpassed, between-apart d.total.held.tabled (inl refl) place other (omega arith, omega arith) (omega arith, omega arith)))
-          | no b ↦ rw (lt-ltb place n a, le-ltb other n (omega arith))
-        ]
-        | no a ↦ elim (dec_lt other n) [
-          | yes b ↦ rw (le-ltb place n (omega arith), lt-ltb other n b)
-          | no b ↦ absurd (omega (arith, unpassed, between-apart d.total.held.tabled (inr refl) place other (omega arith, omega (arith, d.is-place)) (omega arith, omega (arith, drop-inside))))
-        ]
-      ]
+  drop-across = grind (arith, nat_tests, unpassed, drop-inside, apart (inl refl), apart (inr refl))
+    where
+      apart : {first : ℕ} → SideAt n first → OnSide n first place → OnSide n first other → between n w place other ≡ 0
+      apart s = between-apart d.total.held.tabled s place other
 
   -- and has an edge to lose
   pub drop-some : 1 ≤ degree_of n m w other
@@ -136,11 +129,7 @@ module _ {n m : ℕ} {need : ℕ → ℕ} {w : List ℕ} {s : Peel} {place k : �
 
   -- so an edge is lost where the entry is
   less-degree : (p : ℕ) → degree_of n m less p + if (eqb other p) 1 ≡ degree_of n m w p
-  less-degree p =
-      elim (ℕ_discrete p other) [
-        | yes e ↦ rw (e, eq-eqb other other refl) less-same
-        | no e ↦ omega (arith, less_other p e, if-other other p 1 (λ q. e (sym q)))
-      ]
+  less-degree p = grind (arith, nat_tests, less-same, less_other p)
 
   -- what is left is not less than the place's edges to places not dropped
   pub less-least : undropped n m w s other ≤ degree_of n m less other

@@ -1,10 +1,9 @@
 -- The row of a place that is dropped is passed, from its first entry in the table to its last.
 use Prim.Native.Nat.{ℕ, ◌+◌, ◌-◌, ◌*◌, ◌<◌, ◌≤◌}
-use mathlib.Core.Bool.{Bool, true, false, not, cond}
 use mathlib.Core.List.{List}
-use mathlib.Core.Path.{◌≡◌, refl, ap, ◌∙◌}
+use mathlib.Core.Path.{◌≡◌, ap, ◌∙◌}
 use native.Mathlib.Omega.{arith}
-use lib.Dec.{ltb}
+use Rattle.std.proofs.lemmas.Bool.Decides.{nat_tests}
 use lib.ListN.{length, get_or}
 use Rattle.graph.specs.Cover as cover
 use Rattle.peeling.specs.declared.Peel.{Peel}
@@ -61,11 +60,7 @@ module _ {n m : ℕ} {need : ℕ → ℕ} {w₀ : List ℕ} {s₀ : Peel} {place
 
       -- that needs what is asked across
       pub pass-across : (x y : ℕ) → cover.need n y x place ≡ cover.need n x y q
-      pass-across x y = rw (is-entry, drop-across g.dropping entry) (either (ltb place n))
-        where
-          either : (b : Bool) → cond b y x ≡ cond (not b) x y
-          either true = refl
-          either false = refl
+      pass-across x y = rw is-entry (grind (arith, nat_tests, drop-across g.dropping entry))
 
       -- which can be pushed where it becomes short
       pub pass-room : degree_of n m w q ≡ need q → Pushable n s q

@@ -3,11 +3,10 @@
 use Prim.Native.Nat.{ℕ, suc, ◌+◌, ◌<◌, ◌≤◌}
 use mathlib.Core.Bool.{true}
 use mathlib.Core.Logic.{◌≢◌}
-use mathlib.Core.Path.{◌≡◌, refl, sym, ◌∙◌}
-use native.Mathlib.Decide.{ℕ_discrete}
+use mathlib.Core.Path.{◌≡◌, sym, ◌∙◌}
 use native.Mathlib.Numerals.{add-one}
 use native.Mathlib.Omega.{arith}
-use borrow.Author.Tests.{eq-eqb, ne_eqb, lt-leb}
+use Rattle.std.proofs.lemmas.Bool.Decides.{nat_tests}
 use lib.Dec.{leb}
 use Rattle.graph.specs.Linkage.{degree, Surrounds}
 use Rattle.graph.proofs.Sums.{below_suc}
@@ -54,24 +53,12 @@ module _ {L L' : ℕ → ℕ → ℕ} {N : ℕ} {need need' degrees queue queue'
       rw (add-one t)
       record {
         inside = λ i b. below_suc b (λ x. rw (x, top) l) (λ x. rw (← same i x) (k.inside i x));
-        distinct = λ i b. below_suc b (λ x. rw (x, top) is_live) (λ x.
+        distinct = λ i b. below_suc b (λ x. rw (x, top) (sym (live-ext t same q) ∙ k.short q l ∙ enough)) (λ x.
             rw (← same i x) (sym (live-ext i (λ j c. same j (omega arith)) (queue i)) ∙ k.distinct i x));
-        short = λ p b. elim (ℕ_discrete p q) [ yes x ↦ rw x at-q | no x ↦ elsewhere p b x ];
+        short = λ p b. grind (arith, nat_tests, live-suc queue' t p, live-ext t same p, k.short p b, e p b, top, less, enough);
         surrounds = surrounds-more kept (surrounds-without q l (omega arith) (surrounds-more earlier surrounded) surrounded);
       }
     where
-      -- until then the place was live
-      is_live : live queue' t q ≡ true
-      is_live = sym (live-ext t same q) ∙ k.short q l ∙ enough
-
-      -- now it is in the queue, and short
-      at-q : live queue' (suc t) q ≡ leb (need' q) (degrees' q)
-      at-q = live-suc queue' t q ∙ rw (top, eq-eqb q q refl, lt-leb (need' q) (degrees' q) less)
-
-      -- another place is in the queue exactly when it is short, as before
-      elsewhere : (p : ℕ) → p < N → p ≢ q → live queue' (suc t) p ≡ leb (need' p) (degrees' p)
-      elsewhere p b x = live-suc queue' t p ∙ rw (top, ne_eqb p q x) (sym (live-ext t same p) ∙ k.short p b ∙ e p b x)
-
       -- the places that are not before h hold those that were left
       earlier : (p : ℕ) → p < N → live queue t p ≡ true → live queue' h p ≡ true
       earlier p b x = live-before queue' t a p (sym (live-ext t same p) ∙ x)

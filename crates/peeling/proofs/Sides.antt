@@ -6,6 +6,7 @@ use mathlib.Core.Path.{◌≡◌, ap, ◌∙◌}
 use native.Mathlib.Decide.{dec_lt}
 use native.Mathlib.Nat.{add_left_cancel}
 use native.Mathlib.Omega.{arith}
+use Rattle.std.proofs.lemmas.Bool.Decides.{nat_tests}
 use borrow.Author.Tests.{lt-ltb, le-ltb, eqb-true, eq-eqb, ne_eqb}
 use lib.Dec.{eqb, ltb}
 use Rattle.graph.specs.Range.{sum, if}
@@ -50,11 +51,7 @@ module _ {n : ℕ} {R : Group} {s : Peel} (c : Sizes n R s) (q : ℕ) (l : q < 2
 
   -- so the place's own side has somebody
   pub sizes-some : 1 ≤ cond (ltb q n) s.sources s.targets
-  sizes-some =
-      elim (dec_lt q n) [
-        | yes b ↦ rw (lt-ltb q n b) (omega (arith, source-less b))
-        | no b ↦ rw (le-ltb q n (omega arith)) (omega (arith, target-less (omega arith)))
-      ]
+  sizes-some = grind (arith, nat_tests, source-less, target-less)
 
   -- and one less without it, while the other is as it was
   pub sizes-without : Sizes n (without R q) (pushed n s q)

@@ -1,12 +1,12 @@
 -- Before anything is asked of a place no place is short: nothing is queued, each degree is the length of the place's row, and the total is what
 -- the rows of the sources hold, which is E of everyone.
 use Prim.Native.Nat.{ℕ, ◌+◌, ◌-◌, ◌*◌, ◌<◌}
-use mathlib.Core.Bool.{true, false, Bool, cond}
 use mathlib.Core.List.{List}
-use mathlib.Core.Path.{◌≡◌, refl, sym, ◌∙◌}
+use mathlib.Core.Path.{◌≡◌, sym, ◌∙◌}
 use native.Mathlib.Omega.{arith}
+use Rattle.std.proofs.lemmas.Bool.Decides.{nat_tests}
 use borrow.Author.Tests.{le-leb}
-use lib.Dec.{eqb, ltb}
+use lib.Dec.{eqb}
 use Rattle.graph.specs.Range.{if}
 use Rattle.graph.specs.Linkage.{degree}
 use Rattle.graph.specs.Graph.{Graph, edges}
@@ -31,11 +31,7 @@ row-degree {n} {m} {w} r queue p l =
 
 -- where x and y are 0 no place needs an edge
 none_needed : (n p : ℕ) → need n 0 0 p ≡ 0
-none_needed n p = either (ltb p n)
-  where
-    either : (b : Bool) → cond {A = ℕ} b 0 0 ≡ 0
-    either true = refl
-    either false = refl
+none_needed n p = grind (arith, nat_tests)
 
 -- E of everyone is what the rows of the sources hold, which stand one after the other
 whole-edges : {g : Graph} {n m : ℕ} {w : List ℕ} → Tabled g n m w → (queue : ℕ → ℕ) → edges g (live queue 0) (targets g (live queue 0)) ≡ start_of w n - start_of w 0

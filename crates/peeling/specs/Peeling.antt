@@ -6,23 +6,17 @@ use Rattle.graph.specs.Shapes.{Closed}
 use Rattle.graph.specs.Linkage.{degree, Surrounds}
 use Rattle.graph.specs.Places.{targets}
 use Rattle.graph.specs.Cover.{joined, need}
-use Rattle.network.specs.File.{most_members, most_links}
 use Rattle.network.specs.Refusals.{work_length}
 use Rattle.peeling.specs.declared.Peel.{Peel}
 use Rattle.peeling.specs.declared.Scope.{Scope}
 
--- at most 2,048 vertices and 8,192 edges: every entry of the work table fits
-pub record Small (n m : ℕ) : Type 0 where
-  pub order : n ≤ most_members
-  pub size : m ≤ most_links
-
 -- the edges that a place needs by a scope
 abbrev pub need_of : Scope → ℕ → ℕ
-need_of c = need c.order c.x c.y
+need_of c = need c.extent.order c.x c.y
 
 -- and those that the places of the other side need
 abbrev pub need_across : Scope → ℕ → ℕ
-need_across c p = need c.order c.y c.x p
+need_across c p = need c.extent.order c.y c.x p
 
 -- The table: 2n + 1 starts, 2m entries of rows, the degrees of 2n places, and the queue of at most 2n places. The row of place p is the
 -- entries from start p up to start p + 1, which are the places that it is joined to.
@@ -126,6 +120,10 @@ pub record Peeling (n m : ℕ) (need : ℕ → ℕ) (w : List ℕ) (s : Peel) : 
   pub degrees : (p : ℕ) → p < 2 * n → degree_of n m w p ≡ undropped n m w s p
   pub total : Total n m w s
 
+-- a peel by what a scope asks
+abbrev pub PeelBy : Scope → List ℕ → Peel → Type 0
+PeelBy c w s = Peeling c.extent.order c.extent.size (need_of c) w s
+
 -- A peel in the midst of dropping a place, the last one before the head, with k entries of its row passed: each degree and the entries
 -- passed are together what the degree was before, the edges to places not dropped and to this one. The queue goes by the degrees as they are,
 -- and the total is without this place from the first entry on.
@@ -147,10 +145,10 @@ emptied s = eqb s.sources 0 || eqb s.targets 0
 
 -- A peel by a scope has come to its end, and took one table to another: no place waits, or a side is empty and the queue need not be drained.
 pub record Ended (drain : Bool) (c : Scope) (w w' : List ℕ) (s : Peel) : Type 0 where
-  pub peeling : Peeling c.order c.size (need_of c) w' s
+  pub peeling : PeelBy c w' s
   pub drained : drain ≡ true → s.head ≡ s.tail
   pub done : emptied s ≡ false → s.head ≡ s.tail
-  pub kept : Kept c.order c.size w w'
+  pub kept : Kept c.extent.order c.extent.size w w'
 
 -- what places need while it is raised: the new number below place i, and the old one from there on
 abbrev pub raised : (ℕ → ℕ) → (ℕ → ℕ) → ℕ → ℕ → ℕ

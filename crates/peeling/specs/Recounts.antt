@@ -17,12 +17,12 @@ OnSide n first p = (first ≤ p) × (p < first + n)
 -- what a scope asks of the side that begins at first, and nothing of the other
 abbrev pub of_side : Scope → ℕ → Scope
 of_side c first =
-    record { order = c.order; size = c.size; x = cond (eqb first 0) c.x 0; y = cond (eqb first 0) 0 c.y }
+    record { extent = c.extent; x = cond (eqb first 0) c.x 0; y = cond (eqb first 0) 0 c.y }
 
 -- nothing is asked of the side other than that which begins at first
 pub record OneSided (c : Scope) (first : ℕ) : Type 0 where
-  pub side : SideAt c.order first
-  pub free : (p : ℕ) → OnSide c.order (c.order - first) p → need_of c p ≡ 0
+  pub side : SideAt c.extent.order first
+  pub free : (p : ℕ) → OnSide c.extent.order (c.extent.order - first) p → need_of c p ≡ 0
 
 -- the places from the head of s₀ up to the head of s are dropped, but for their rows
 pub record Passed (n m : ℕ) (w : List ℕ) (s₀ s : Peel) : Type 0 where

@@ -3,6 +3,8 @@
 
 mod peels;
 
+use network::Extent;
+
 // How far a peel has come: head and tail of the queue of places that are short, how many places of each side are not in it, and the running
 // total: the edges between the places that are not dropped yet.
 #[derive(Clone, Copy, PartialEq, Eq, Debug)]
@@ -17,10 +19,9 @@ pub struct Peel {
 // What a peel goes by: the numbers of vertices and edges, and how many edges a source and a target need.
 #[derive(Clone, Copy, PartialEq, Eq, Debug)]
 pub struct Scope {
-    pub order: usize,
-    pub size: usize,
+    pub extent: Extent,
     pub x: usize,
     pub y: usize,
 }
 
-pub use peels::put;
+pub use peels::{need, put};

@@ -1,36 +1,32 @@
 -- The matches that are played again in a table, from the leaf of place p up to the root. The invariant: node k is reached, and the nodes above it
--- wait; only entries of nodes differ from the table w₀ that the store of the key left; and the rank carried is that of the place that node k
--- holds. The smaller of it and the rank at the sibling is that of the node above. At the root none waits, and the table holds a tree.
+-- wait; only entries of nodes differ from the table w₀ that the store of the key left; and the rank carried is that of the place that node k holds. The smaller of it and the rank at the sibling is that of the node above. At the root none waits, and the table holds a tree.
 use Prim.Native.Nat.{ℕ, ◌+◌, ◌*◌, ◌/◌, ◌%◌, ◌<◌, ◌≤◌, min}
 use mathlib.Core.List.{List}
 use mathlib.Core.Path.{◌≡◌, sym, ap, ◌∙◌}
 use native.Mathlib.Omega.{arith}
-use lib.ListN.{set, length-set}
+use lib.ListN.{set}
 use lib.Seq.{get_or-set_same}
-use Rattle.picking.specs.Winners.{key_of, node_of, won_of, rank, rank_of, sibling_of, Tree, Beside, Room}
+use Rattle.picking.specs.Winners.{key_of, node_of, won_of, rank, rank_of, sibling_of, Tree}
 use Rattle.picking.proofs.Matches.{Pending, pending_next, pending-end, Plays, winner-inside}
 use Rattle.picking.proofs.Ranks.{above-rank, rank-place}
 use Rattle.picking.proofs.Replays.{pending-begin, stored-tree, stored-others}
-use Rattle.picking.proofs.Tables.{node-place, plays, beside_same, beside-set, room-same}
+use Rattle.picking.proofs.Tables.{Over, over-key, over-set, node-place, plays}
 
 -- node k is reached, and r is the rank of the place that it holds
 pub record Climbs (at n : ℕ) (w₀ w : List ℕ) (k r : ℕ) : Type 0 where
   pub inside : k < 2 * n
-  pub room : Room at n w
-  pub beside : Beside at n w₀ w
+  pub over : Over at n w₀ w
   pub pending : Pending (key_of w at) (node_of w at n) n (k / 2)
   ranked : r ≡ rank_of w at n k
 
 -- after the store of a key its leaf is reached
-pub climbs-begin : {at n : ℕ} {w : List ℕ} (p v : ℕ) → p < n → Room at n w → Tree w at n
-    → Climbs at n (set w (at + p) v) (set w (at + p) v) (n + p) (4096 * v + p)
-climbs-begin {at} {n} {w} p v l r t =
+pub climbs-begin : {at n : ℕ} {w : List ℕ} (p v : ℕ) → p < n → Tree w at n → Climbs at n (set w (at + p) v) (set w (at + p) v) (n + p) (4096 * v + p)
+climbs-begin {at} {n} {w} p v l t =
     record {
       inside = omega arith;
-      room = room-same {w = w} (length-set w (at + p) v) r;
-      beside = beside_same at n _;
+      over = over-key (at + p) v t.room;
       pending = pending-begin (stored-tree w at n p v l t) (node-place _ at n) p _ (λ q h d. stored-others w at p v q d);
-      ranked = rw (node-place (set w (at + p) v) at n p l, get_or-set_same w (at + p) v 0 (omega (arith, r.room)));
+      ranked = rw (node-place (set w (at + p) v) at n p l, get_or-set_same w (at + p) v 0 (omega (arith, t.room)));
     }
 
 module _ {at n k r s : ℕ} {w₀ w : List ℕ} (c : Climbs at n w₀ w k r) (a : 1 < k) (q : s ≡ min r (rank_of w at n (sibling_of k))) where
@@ -38,7 +34,7 @@ module _ {at n k r s : ℕ} {w₀ w : List ℕ} (c : Climbs at n w₀ w k r) (a 
   climbs-rank : s ≡ rank (key_of w at) (won_of w at n (k / 2))
   climbs-rank =
       q ∙ ap (λ t. min t (rank_of w at n (sibling_of k))) c.ranked
-      ∙ sym (above-rank (key_of w at) (node_of w at n) c.room.most k (c.pending.place k (omega arith) c.inside) (c.pending.place (sibling_of k) (omega arith) (omega (arith, c.inside))))
+      ∙ sym (above-rank (key_of w at) (node_of w at n) c.over.room.most k (c.pending.place k (omega arith) c.inside) (c.pending.place (sibling_of k) (omega arith) (omega (arith, c.inside))))
 
   -- which is a place
   climbs-place : won_of w at n (k / 2) < n
@@ -49,8 +45,7 @@ module _ {at n k r s : ℕ} {w₀ w : List ℕ} (c : Climbs at n w₀ w k r) (a 
   climbs-next {w'} d =
       record {
         inside = omega (arith, c.inside);
-        room = room-same (b.same_length ∙ sym c.beside.same_length) c.room;
-        beside = b;
+        over = over-set c.over (k / 2) _ up d;
         pending = pending_next y (omega arith) up c.pending;
         ranked = climbs-rank ∙ ap (λ t. 4096 * t + won_of w at n (k / 2)) (sym (y.keys _ climbs-place)) ∙ ap (rank (key_of w' at)) (sym y.here);
       }
@@ -58,12 +53,9 @@ module _ {at n k r s : ℕ} {w₀ w : List ℕ} (c : Climbs at n w₀ w k r) (a 
       up : k / 2 < n
       up = omega (arith, c.inside)
 
-      b : Beside at n w₀ w'
-      b = beside-set (k / 2) _ up d c.beside
-
       y : Plays (key_of w at) (node_of w at n) (key_of w' at) (node_of w' at n) n (k / 2)
-      y = plays (k / 2) c.room up (d ∙ ap (set w (at + n + k / 2)) (ap (◌% 4096) climbs-rank ∙ rank-place (key_of w at) _ (omega (arith, climbs-place, c.room.most))))
+      y = plays c.over (k / 2) _ up d (ap (◌% 4096) climbs-rank ∙ rank-place (key_of w at) _ (omega (arith, climbs-place, c.over.room)))
 
 -- at the root there is a tree
 pub climbs-end : {at n k r : ℕ} {w₀ w : List ℕ} → k ≤ 1 → Climbs at n w₀ w k r → Tree w at n
-climbs-end {k = k} l c = let z : k / 2 ≡ 0 = omega arith in pending-end (rw z at c.pending)
+climbs-end {k = k} l c = let z : k / 2 ≡ 0 = omega arith in record { room = c.over.room; matched = pending-end (rw z at c.pending) }

@@ -9,9 +9,9 @@ use native.Mathlib.Decide.{ℕ_discrete, dec_lt}
 use native.Mathlib.Omega.{arith}
 use lib.ListN.{set}
 use lib.Seq.{get_or-set_other}
-use Rattle.picking.specs.Winners.{key_of, node_of, Tree, Played, Matched}
-use Rattle.picking.proofs.Matches.{above, above_half, Pending, winner-won, winner-ext, matched-same}
-use Rattle.picking.proofs.Tables.{node-inner, node-leaf}
+use Rattle.picking.specs.Winners.{key_of, node_of, Played, Matched, Tree}
+use Rattle.picking.proofs.Matches.{above, above_half, Pending, winner-one, winner-ext, matched-same}
+use Rattle.picking.proofs.Tables.{node-same}
 
 -- place p comes to node k from one of the two nodes below it
 abbrev Comes : (ℕ → ℕ) → ℕ → ℕ → Type 0
@@ -19,7 +19,7 @@ Comes node p k = (node (2 * k) ≡ p) ⊎ (node (2 * k + 1) ≡ p)
 
 -- a place that wins comes from below
 played-comes : (key node : ℕ → ℕ) (p k : ℕ) → Played key node k → node k ≡ p → Comes node p k
-played-comes key node p k e h = ⊎_elim (λ o. inl (sym o ∙ sym e ∙ h)) (λ o. inr (sym o ∙ sym e ∙ h)) (winner-won key (node (2 * k)) (node (2 * k + 1))).one
+played-comes key node p k e h = ⊎_elim (λ o. inl (sym o ∙ sym e ∙ h)) (λ o. inr (sym o ∙ sym e ∙ h)) (winner-one key (node (2 * k)) (node (2 * k + 1)))
 
 module _ {key node : ℕ → ℕ} {n : ℕ} (m : Matched key node n 0) (leaf : (q : ℕ) → q < n → node (n + q) ≡ q) (p : ℕ) where
   -- a node that holds place p is above its leaf
@@ -63,17 +63,10 @@ module _ {key node : ℕ → ℕ} {n : ℕ} (m : Matched key node n 0) (leaf : (
             | no g ↦ elim (ℕ_discrete (node (2 * k + 1)) p) [ yes e ↦ inr (comes-above k a b (inr e)) | no h ↦ inl (still-played k a b g h) ]
           ]
 
--- a store to a key leaves the nodes
-node-set : (w : List ℕ) (at n p v k : ℕ) → p < n → k < 2 * n → node_of (set w (at + p) v) at n k ≡ node_of w at n k
-node-set w at n p v k l h =
-    elim (dec_lt k n) [
-      | yes i ↦ node-inner _ at n k i ∙ get_or-set_other w (at + p) (at + n + k) v 0 (omega arith) ∙ sym (node-inner w at n k i)
-      | no i ↦ node-leaf _ at n k (omega arith) ∙ sym (node-leaf w at n k (omega arith))
-    ]
-
--- so after it they are those of a tree over the keys before,
+-- a store to a key leaves the nodes: they are those of a tree over the keys before,
 pub stored-tree : (w : List ℕ) (at n p v : ℕ) → p < n → Tree w at n → Matched (key_of w at) (node_of (set w (at + p) v) at n) n 0
-stored-tree w at n p v l t = matched-same _ (λ k h. node-set w at n p v k l h) t
+stored-tree w at n p v l t =
+    matched-same _ (λ k h. node-same w _ at n k (λ i. get_or-set_other w (at + p) (at + n + k) v 0 (omega arith))) t.matched
 
 -- and the other keys are these
 pub stored-others : (w : List ℕ) (at p v q : ℕ) → q ≢ p → key_of (set w (at + p) v) at q ≡ key_of w at q

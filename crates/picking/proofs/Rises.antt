@@ -8,14 +8,14 @@ use mathlib.Core.List.{List}
 use mathlib.Core.Logic.{◌⊎◌, inl, ⊎_elim, ◌≢◌}
 use mathlib.Core.Path.{◌≡◌, refl, sym, ap, ◌∙◌}
 use native.Mathlib.Omega.{arith}
-use lib.ListN.{set, length-set}
+use lib.ListN.{set}
 use lib.Seq.{get_or-set_same}
 use Rattle.std.proofs.lemmas.Bool.Decides.{nat_tests}
-use Rattle.picking.specs.Winners.{key_of, node_of, winner, rank, sibling_of, Played, Matched, Tree, Beside, Room, Risen, Beaten}
+use Rattle.picking.specs.Winners.{key_of, node_of, winner, rank, rank_of, sibling_of, Played, Matched, Tree}
 use Rattle.picking.proofs.Matches.{above, Pending, pending_next, pending-end, Plays, winner-inside}
-use Rattle.picking.proofs.Ranks.{winner-rank, rank-one, above-rank}
+use Rattle.picking.proofs.Ranks.{winner-rank, rank-one, above-rank, matched-rank}
 use Rattle.picking.proofs.Replays.{pending-begin, stored-tree, stored-others}
-use Rattle.picking.proofs.Tables.{node-place, plays, beside_same, beside-set, room-same}
+use Rattle.picking.proofs.Tables.{Over, over-key, over-set, node-place, plays}
 
 -- node c is reached by place p, or c is 0 and none waits; the nodes before were `first`, over the keys `old`
 pub record Rises (key first node : ℕ → ℕ) (n p c : ℕ) : Type 0 where
@@ -52,12 +52,6 @@ min-near : (r a b c d : ℕ) → Near r a c → Near r b d → min c d < r → m
 min-near r a b c d h i j = grind (arith, nat_tests)
 
 module _ {key first node : ℕ → ℕ} {n p c : ℕ} (s : n ≤ 4096) (l : p < n) (a : 1 < c) (b : c < 2 * n) (m : Rises key first node n p c) where
-  -- the rank at a node was the smaller of that at a node below it and that at the sibling of this one
-  first-rank : (k : ℕ) → 1 < k → k < 2 * n → rank m.old (first (k / 2)) ≡ min (rank m.old (first k)) (rank m.old (first (sibling_of k)))
-  first-rank k h i =
-      ap (rank m.old) (m.tree.played (k / 2) (omega arith) (omega arith))
-      ∙ above-rank m.old first s k (m.tree.place k (omega arith) i) (m.tree.place (sibling_of k) (omega arith) (omega arith))
-
   -- the rank at a node before 2 * c is what it was, or not less than that of place p now and before
   near : (k : ℕ) → 1 ≤ k → k < 2 * c → k < 2 * n → Near (rank key p) (rank key (node k)) (rank m.old (first k))
   near k h i j = grind (arith, nat_tests)
@@ -101,7 +95,7 @@ module _ {key first node : ℕ → ℕ} {n p c : ℕ} (s : n ≤ 4096) (l : p < 
       here : rank m.old (first (c / 2)) < rank key p
       here =
           ⊎_elim
-          (λ e. omega (arith, e, v, first-rank c a b))
+          (λ e. omega (arith, e, v, matched-rank s m.tree c a b))
           (λ (f, g). absurd (omega arith))
           (near (sibling_of c) (omega arith) (omega arith) (omega arith))
 
@@ -109,7 +103,7 @@ module _ {key first node : ℕ → ℕ} {n p c : ℕ} (s : n ≤ 4096) (l : p < 
       up zero k h e = rw (← e) (omega arith, here)
       up (suc t) k h e =
           let (i, j) = up t _ (omega arith) refl in
-          let r = first-rank (above t (c / 2)) (omega arith) (omega arith) in
+          let r = matched-rank s m.tree (above t (c / 2)) (omega arith) (omega arith) in
           rw (← e) (omega arith, omega (arith, r))
 
       won : (t k : ℕ) → 1 ≤ k → k < n → above t (c / 2) ≡ k → Played key node k
@@ -136,7 +130,7 @@ module _ {key first node : ℕ → ℕ} {n p c : ℕ} (s : n ≤ 4096) (l : p < 
           less = rw (y.keys p l) m.less;
           kept = λ k h i d. y.else k i d ∙ m.kept k (omega arith) i (λ e. omega arith);
           held = λ h. y.here ∙ sym rises-won;
-          gain = λ h. rw (y.keys p l, first-rank c a b) (omega (arith, m.gain a, sibling));
+          gain = λ h. rw (y.keys p l, matched-rank s m.tree c a b) (omega (arith, m.gain a, sibling));
         }
       where
         sibling : rank key p ≤ rank m.old (first (sibling_of c))
@@ -146,54 +140,51 @@ module _ {key first node : ℕ → ℕ} {n p c : ℕ} (s : n ≤ 4096) (l : p < 
 pub record Rising (at n p r : ℕ) (w₀ w : List ℕ) (k : ℕ) : Type 0 where
   pub inside : k < 2 * n
   pub here : p < n
-  pub room : Room at n w
-  pub beside : Beside at n w₀ w
+  pub over : Over at n w₀ w
   pub own : r ≡ rank (key_of w at) p
   pub rises : Rises (key_of w at) (node_of w₀ at n) (node_of w at n) n p k
 
 -- after the store of a key its leaf is reached
-pub rising-begin : {at n : ℕ} {w : List ℕ} (p v : ℕ) → p < n → Room at n w → Tree w at n → v ≤ key_of w at p
+pub rising-begin : {at n : ℕ} {w : List ℕ} (p v : ℕ) → p < n → Tree w at n → v ≤ key_of w at p
     → Rising at n p (4096 * v + p) (set w (at + p) v) (set w (at + p) v) (n + p)
-rising-begin {at} {n} {w} p v l r t h =
+rising-begin {at} {n} {w} p v l t h =
     record {
       inside = omega arith;
       here = l;
-      room = room-same {w = w} (length-set w (at + p) v) r;
-      beside = beside_same at n _;
+      over = over-key (at + p) v t.room;
       own = rw e;
       rises = rises-begin (stored-tree w at n p v l t) (node-place _ at n) _ p l (λ q i d. stored-others w at p v q d) (rw e h);
     }
   where
     e : key_of (set w (at + p) v) at p ≡ v
-    e = get_or-set_same w (at + p) v 0 (omega (arith, r.room))
+    e = get_or-set_same w (at + p) v 0 (omega (arith, t.room))
 
-module _ {at n p r k : ℕ} {w₀ w w' : List ℕ} (c : Rising at n p r w₀ w k) (a : 1 < k) where
+module _ {at n p r k : ℕ} {w₀ w : List ℕ} (c : Rising at n p r w₀ w k) (a : 1 < k) where
   -- after a match that place p wins the node above is reached
-  pub rising-next : {j : ℕ} → Risen at n k p w w' j → Rising at n p r w₀ w' j
-  rising-next e =
-      rw e.up
-      (record {
+  pub rising-next : {w' : List ℕ} → r ≤ rank_of w at n (sibling_of k) → w' ≡ set w (at + n + k / 2) p → Rising at n p r w₀ w' (k / 2)
+  rising-next {w'} u e =
+      record {
         inside = omega (arith, c.inside);
         here = c.here;
-        room = room-same (b.same_length ∙ sym c.beside.same_length) c.room;
-        beside = b;
+        over = over-set c.over (k / 2) p up e;
         own = c.own ∙ ap (λ t. 4096 * t + p) (sym (y.keys p c.here));
-        rises = rises_next c.room.most c.here a c.inside c.rises e.wins y;
-      })
+        rises = rises_next c.over.room.most c.here a c.inside c.rises wins y;
+      }
     where
       up : k / 2 < n
       up = omega (arith, c.inside)
 
-      b : Beside at n w₀ w'
-      b = beside-set (k / 2) _ up e.stored c.beside
+      wins : rank (key_of w at) p ≤ rank_of w at n (sibling_of k)
+      wins = omega (arith, c.own, u)
 
       y : Plays (key_of w at) (node_of w at n) (key_of w' at) (node_of w' at n) n (k / 2)
-      y = plays (k / 2) c.room up (e.stored ∙ ap (set w (at + n + k / 2)) (rises-won c.room.most c.here a c.inside c.rises e.wins))
+      y = plays c.over (k / 2) p up e (rises-won c.over.room.most c.here a c.inside c.rises wins)
 
   -- after one that it loses none waits: there is a tree
-  pub rising-stop : Beaten at n k p w w' → Tree w' at n
-  rising-stop e = rw e.same (pending-end (rises-stop c.room.most c.here a c.inside c.rises e.loses).pending)
+  pub rising-stop : rank_of w at n (sibling_of k) < r → Tree w at n
+  rising-stop u =
+      record { room = c.over.room; matched = pending-end (rises-stop c.over.room.most c.here a c.inside c.rises (omega (arith, c.own, u))).pending }
 
 -- at the root there is one too
 pub rising-end : {at n p r k : ℕ} {w₀ w : List ℕ} → k ≤ 1 → Rising at n p r w₀ w k → Tree w at n
-rising-end {k = k} l c = let z : k / 2 ≡ 0 = omega arith in pending-end (rw z at c.rises.pending)
+rising-end {k = k} l c = let z : k / 2 ≡ 0 = omega arith in record { room = c.over.room; matched = pending-end (rw z at c.rises.pending) }

@@ -1,6 +1,6 @@
 -- A tree of matches over n places: node k from 1 to n - 1 has the nodes 2 * k and 2 * k + 1 below it, and node n + p is place p. Each node
 -- holds the place that wins among those below it: the one with the smallest key, and of these the smallest place.
-use Rattle.std.specs.Prelude.{ℕ, ◌+◌, ◌-◌, ◌*◌, ◌/◌, ◌%◌, ◌<◌, ◌≤◌, cond, List, ◌≡◌, ltb, length, get_or, set}
+use Rattle.std.specs.Prelude.{ℕ, ◌+◌, ◌-◌, ◌*◌, ◌%◌, ◌<◌, ◌≤◌, cond, List, ◌≡◌, ltb, length, get_or}
 use Rattle.graph.specs.Sorting.{stable}
 
 -- the winner of two places
@@ -40,30 +40,19 @@ pub record Matched (key node : ℕ → ℕ) (n c : ℕ) : Type 0 where
   pub place : (k : ℕ) → c < k → k < 2 * n → node k < n
   pub played : (k : ℕ) → c < k → k < n → Played key node k
 
--- all nodes do
-abbrev pub Tree : List ℕ → ℕ → ℕ → Type 0
-Tree w at n = Matched (key_of w at) (node_of w at n) n 0
+-- there is room for the keys and the nodes, of two places or more, and of no more than ranks tell apart
+pub record Room (at n : ℕ) (w : List ℕ) : Type 0 where
+  pub some : 2 ≤ n
+  pub most : n ≤ 4096
+  pub room : at + 2 * n ≤ length w
+
+-- there is, and all nodes do
+pub record Tree (w : List ℕ) (at n : ℕ) : Type 0 where
+  pub room : Room at n w
+  pub matched : Matched (key_of w at) (node_of w at n) n 0
 
 -- the tables differ only in the entries of the nodes
 pub record Beside (at n : ℕ) (w w' : List ℕ) : Type 0 where
   pub same_length : length w' ≡ length w
   pub before : (i : ℕ) → i < at + n → get_or w' i 0 ≡ get_or w i 0
   pub after : (i : ℕ) → at + 2 * n ≤ i → get_or w' i 0 ≡ get_or w i 0
-
--- there is room for the keys and the nodes
-pub record Room (at n : ℕ) (w : List ℕ) : Type 0 where
-  pub some : 2 ≤ n
-  pub most : n ≤ 4096
-  pub low : at ≤ 65536
-  pub room : at + 2 * n ≤ length w
-
--- place p wins the match above node k: it is stored there, and the node above is next
-pub record Risen (at n k p : ℕ) (w w' : List ℕ) (next : ℕ) : Type 0 where
-  pub up : next ≡ k / 2
-  pub wins : rank (key_of w at) p ≤ rank_of w at n (sibling_of k)
-  pub stored : w' ≡ set w (at + n + k / 2) p
-
--- place p loses the match above node k, and nothing changes
-pub record Beaten (at n k p : ℕ) (w w' : List ℕ) : Type 0 where
-  pub loses : rank_of w at n (sibling_of k) < rank (key_of w at) p
-  pub same : w' ≡ w

@@ -2,10 +2,10 @@
 // the rank of a place is 4,096 times its key and the place, so that one comparison finds the winner, and the rank tells its place.
 #![tactic(auto)]
 
-ghost use Rattle.std.specs.Prelude.{MatchOption, ◌≡◌, ◌+◌, ◌*◌, ◌<◌, ◌≤◌, set};
+ghost use Rattle.std.specs.Prelude.{◌≡◌, ◌+◌, ◌*◌, ◌<◌, ◌≤◌, set, length};
 ghost use Rattle.graph.specs.Graph.{everyone};
 ghost use Rattle.graph.specs.Drops.{Least};
-ghost use Rattle.picking.specs.Winners.{key_of, node_of, won_of, rank, rank_of, sibling_of, Tree, Beside, Room, Risen, Beaten};
+ghost use Rattle.picking.specs.Winners.{key_of, node_of, won_of, rank_of, sibling_of, Room, Tree, Beside};
 
 // The node beside a node, below the same node.
 fn sibling(k: usize) -> usize
@@ -14,7 +14,8 @@ fn sibling(k: usize) -> usize
     k ^ 1
 }
 
-// Where a tree stands in a table, and over how many places: their keys from entry `at` on, then the nodes from 0 on, of which 1 is the root.
+// Where a tree stands in a table, and over how many places: their keys from entry `at` on, then the nodes from 0 on, of which 1 is the root. The
+// table is lent beside it: a tree lent by itself would be cut out of the table anew for each call, with what it holds said all the same.
 #[derive(Clone, Copy, Debug, PartialEq, Eq)]
 pub struct Bracket {
     pub at: usize,
@@ -25,8 +26,7 @@ impl Bracket {
     // The place that a node holds.
     #[tactic(auto, unfolding(crate::specs::Winners::node_of))]
     fn node(self, work: &[u16], k: usize) -> usize
-        requires room { Room self.at self.places work.now }
-        requires node_in { k < 2 * self.places }
+        requires { self.at + 2 * self.places ≤ length work.now }
         ensures { result ≡ node_of work.now self.at self.places k }
     {
         if k < self.places {
@@ -38,8 +38,7 @@ impl Bracket {
 
     // The rank of the place that a node holds.
     fn rank_at(self, work: &[u16], k: usize) -> usize
-        requires room { Room self.at self.places work.now }
-        requires node_in { k < 2 * self.places }
+        requires room { self.at + 2 * self.places ≤ length work.now }
         requires place_in { node_of work.now self.at self.places k < self.places }
         ensures { result ≡ rank_of work.now self.at self.places k }
     {
@@ -61,23 +60,6 @@ impl Bracket {
         work[self.at + self.places + k] = (rank % 4096) as u16;
     }
 
-    // The match above node k, which holds the place: if the place wins it is stored there, and the node above is reached.
-    fn rise(self, work: &mut [u16], place: usize, own: usize, k: usize) -> Option<usize>
-        requires room { Room self.at self.places work.old }
-        requires place_in { place < self.places }
-        requires own_rank { own ≡ rank (key_of work.old self.at) place }
-        requires node_in { k < 2 * self.places }
-        requires sibling_in { node_of work.old self.at self.places (sibling_of k) < self.places }
-        ensures { MatchOption result (Beaten self.at self.places k place work.old work.new) (λ up. Risen self.at self.places k place work.old work.new up) }
-    {
-        if self.rank_at(work, sibling(k)) < own {
-            return None;
-        }
-        let up = k / 2;
-        work[self.at + self.places + up] = place as u16;
-        Some(up)
-    }
-
     // The tree over the keys.
     pub fn build(self, work: &mut [u16])
         requires { Room self.at self.places work.old }
@@ -91,7 +73,6 @@ impl Bracket {
 
     // The tree when the key of a place is another: the matches from there up to the root, with the rank of the winner so far.
     pub fn set_key(self, work: &mut [u16], place: usize, key: u16)
-        requires room { Room self.at self.places work.old }
         requires tree { Tree work.old self.at self.places }
         requires place_in { place < self.places }
         ensures tree { Tree work.new self.at self.places }
@@ -110,7 +91,6 @@ impl Bracket {
 
     // The tree when the key of a place is not greater than it was: the place rises up to the first match that it loses, and above that nothing changes.
     pub fn lower_key(self, work: &mut [u16], place: usize, key: u16)
-        requires room { Room self.at self.places work.old }
         requires tree { Tree work.old self.at self.places }
         requires place_in { place < self.places }
         requires not_greater { key ≤ key_of work.old self.at place }
@@ -121,17 +101,17 @@ impl Bracket {
         let own = 4096 * usize::from(key) + place;
         let mut k = self.places + place;
         while 1 < k {
-            match self.rise(work, place, own, k) {
-                Some(up) => k = up,
-                None => return,
+            if self.rank_at(work, sibling(k)) < own {
+                return;
             }
+            k = k / 2;
+            work[self.at + self.places + k] = place as u16;
         }
     }
 
     // The place with the smallest key.
     pub fn first_of(self, work: &[u16]) -> usize
-        requires room { Room self.at self.places work.now }
-        requires tree { Tree work.now self.at self.places }
+        requires { Tree work.now self.at self.places }
         ensures { Least (key_of work.now self.at) everyone self.places result }
     {
         usize::from(work[self.at + self.places + 1])

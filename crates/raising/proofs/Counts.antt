@@ -5,7 +5,8 @@ use Rattle.graph.specs.Range.{sum, if}
 use Rattle.graph.specs.Graph.{Graph}
 use Rattle.graph.proofs.Tests.{if-le, if-zero}
 use Rattle.graph.proofs.Sums.{sum-empty, sum-next, sum-ext, sum_mono, sum-front}
-use Rattle.peeling.specs.Peeling.{row_length, degree_of, between, live, Small, Tabled}
+use Rattle.network.specs.Small.{Small}
+use Rattle.peeling.specs.Peeling.{row_length, degree_of, between, live, Tabled}
 use Rattle.peeling.specs.Recounts.{SideAt, OnSide, Cleared, Recounted, Roomy, Gained}
 use Rattle.peeling.proofs.Tables.{start-last}
 use Rattle.peeling.proofs.Kept.{between-kept, tabled-kept}

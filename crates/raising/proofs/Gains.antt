@@ -1,9 +1,9 @@
 -- Degrees that are counted anew. With each entry of a row that is passed its place gains an edge, so that after the whole row each place has
 -- gained its edges to the place of the row.
 use Rattle.std.proofs.Common.{◌≡◌, ℕ, ◌+◌, ◌-◌, ◌*◌, ◌<◌, ◌≤◌, true, eqb, List, length, get_or, sym, refl, ap, ◌∙◌, arith}
-use native.Mathlib.Decide.{ℕ_discrete}
+use Rattle.std.proofs.lemmas.Bool.Decides.{nat_tests}
 use Rattle.graph.specs.Range.{sum, if}
-use Rattle.graph.proofs.Tests.{if-same, if-other}
+use Rattle.graph.proofs.Tests.{if-same}
 use Rattle.peeling.specs.Peeling.{start_of, row_entry, degree_of, entries, between, Rows, with_degree}
 use Rattle.peeling.specs.Recounts.{Recounting, Roomy, Gained}
 use Rattle.peeling.proofs.Tables.{with-degree-same, with-degree-other, with-degree-queue}
@@ -103,7 +103,9 @@ module _ {n m : ℕ} {w₀ : List ℕ} {place : ℕ} (r : Rows n m w₀) (i : pl
           where
             gained : (p : ℕ) → degree_of n m w' p ≡ degree_of n m w p + if (eqb q p) 1
             gained p =
-                elim (ℕ_discrete p q) [
-                  | yes x ↦ rw (x, u) (with-degree-same n m w q _ (omega (arith, gain-place, r.long, g.recounting.kept.same_length)) ∙ omega (arith, if-same q q 1 refl))
-                  | no x ↦ rw u (with-degree-other n m w q _ p x ∙ omega (arith, if-other q p 1 (λ y. x (sym y))))
-                ]
+                rw u (grind (
+                  arith,
+                  nat_tests,
+                  with-degree-same n m w q (degree_of n m w q + 1) (omega (arith, gain-place, r.long, g.recounting.kept.same_length)),
+                  with-degree-other n m w q (degree_of n m w q + 1) p,
+                ))

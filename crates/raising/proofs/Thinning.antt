@@ -6,7 +6,7 @@ use Rattle.graph.specs.Range.{if}
 use Rattle.graph.proofs.Sums.{sum-ext}
 use Rattle.peeling.specs.declared.Peel.{Peel}
 use Rattle.peeling.specs.declared.Scope.{Scope}
-use Rattle.peeling.specs.Peeling.{need_of, degree_of, queue_of, between, live, undropped, Queued, Peeling, past}
+use Rattle.peeling.specs.Peeling.{need_of, degree_of, queue_of, between, live, undropped, Queued, PeelBy, past}
 use Rattle.peeling.specs.Recounts.{OnSide, OneSided, Passed, Recounted}
 use Rattle.peeling.proofs.Live.{live-suc, live-before}
 use Rattle.peeling.proofs.Kept.{degree-kept}
@@ -15,48 +15,48 @@ use Rattle.peeling.proofs.Apart.{side-other, side-place, side-either, degree-acr
 use Rattle.peeling.proofs.Pushes.{Step, queued-stays}
 use Rattle.raising.proofs.Raises.{need-side}
 
-module _ {c : Scope} {first : ℕ} {w : List ℕ} {s : Peel} (o : OneSided c first) (k : Peeling c.order c.size (need_of c) w s) where
+module _ {c : Scope} {first : ℕ} {w : List ℕ} {s : Peel} (o : OneSided c first) (k : PeelBy c w s) where
   -- every place of the other side stands, however far the queue is passed
-  other-stands : (h : ℕ) → h ≤ s.tail → (q : ℕ) → OnSide c.order (c.order - first) q → live (queue_of c.order c.size w) h q ≡ true
+  other-stands : (h : ℕ) → h ≤ s.tail → (q : ℕ) → OnSide c.extent.order (c.extent.order - first) q → live (queue_of c.extent.order c.extent.size w) h q ≡ true
   other-stands h l q u =
       live-before _ s.tail l q
-      (k.queued.queue.short q (side-place (side-other o.side) u) ∙ rw (o.free q u) (le-leb 0 (degree_of c.order c.size w q) (omega arith)))
+      (k.queued.queue.short q (side-place (side-other o.side) u) ∙ rw (o.free q u) (le-leb 0 (degree_of c.extent.order c.extent.size w q) (omega arith)))
 
   -- so every place in the queue is of this side
-  queue-own : (i : ℕ) → i < s.tail → OnSide c.order first (queue_of c.order c.size w i)
+  queue-own : (i : ℕ) → i < s.tail → OnSide c.extent.order first (queue_of c.extent.order c.extent.size w i)
   queue-own i l =
       ⊎_elim (λ u. u) (λ u. absurd (false≢true (sym gone ∙ other-stands (suc i) (omega arith) _ u))) (side-either o.side _ (k.queued.queue.inside i l))
     where
-      gone : live (queue_of c.order c.size w) (suc i) (queue_of c.order c.size w i) ≡ false
-      gone = live-suc (queue_of c.order c.size w) i _ ∙ rw (eq-eqb (queue_of c.order c.size w i) (queue_of c.order c.size w i) refl)
+      gone : live (queue_of c.extent.order c.extent.size w) (suc i) (queue_of c.extent.order c.extent.size w i) ≡ false
+      gone = live-suc (queue_of c.extent.order c.extent.size w) i _ ∙ rw (eq-eqb (queue_of c.extent.order c.extent.size w i) (queue_of c.extent.order c.extent.size w i) refl)
 
   -- a place of this side keeps its degree while the queue is passed
-  own-degree : {s' : Peel} → Passed c.order c.size w s s' → (p : ℕ) → OnSide c.order first p
-      → degree_of c.order c.size w p ≡ undropped c.order c.size w s' p
+  own-degree : {s' : Peel} → Passed c.extent.order c.extent.size w s s' → (p : ℕ) → OnSide c.extent.order first p
+      → degree_of c.extent.order c.extent.size w p ≡ undropped c.extent.order c.extent.size w s' p
   own-degree {s'} d p u =
       k.degrees p (side-place o.side u)
       ∙ degree-own k.total.held.tabled o.side
       (λ q v. other-stands s.head k.queued.waiting q v ∙ sym (other-stands s'.head (omega (arith, d.within, d.tail)) q v)) p u
 
-  module _ {s' : Peel} (d : Passed c.order c.size w s s') (l : s'.head < s'.tail) where
+  module _ {s' : Peel} (d : Passed c.extent.order c.extent.size w s s') (l : s'.head < s'.tail) where
     -- the next one is a place
-    pub waiting-place : queue_of c.order c.size w s'.head < 2 * c.order
+    pub waiting-place : queue_of c.extent.order c.extent.size w s'.head < 2 * c.extent.order
     waiting-place = k.queued.queue.inside s'.head (omega (arith, d.tail))
 
     -- that stands
-    stands : live (queue_of c.order c.size w) s'.head (queue_of c.order c.size w s'.head) ≡ true
+    stands : live (queue_of c.extent.order c.extent.size w) s'.head (queue_of c.extent.order c.extent.size w s'.head) ≡ true
     stands = k.queued.queue.distinct s'.head (omega (arith, d.tail))
 
     -- and has its degree still
-    exact : degree_of c.order c.size w (queue_of c.order c.size w s'.head) ≡ undropped c.order c.size w s' (queue_of c.order c.size w s'.head)
+    exact : degree_of c.extent.order c.extent.size w (queue_of c.extent.order c.extent.size w s'.head) ≡ undropped c.extent.order c.extent.size w s' (queue_of c.extent.order c.extent.size w s'.head)
     exact = own-degree d _ (queue-own s'.head (omega (arith, d.tail)))
 
     -- so the total is enough for it
-    pub waiting-enough : degree_of c.order c.size w (queue_of c.order c.size w s'.head) ≤ s'.edges
+    pub waiting-enough : degree_of c.extent.order c.extent.size w (queue_of c.extent.order c.extent.size w s'.head) ≤ s'.edges
     waiting-enough = total-enough d.total waiting-place stands exact
 
     -- and it is passed
-    pub pass-one : Passed c.order c.size w s (past c.order c.size w s')
+    pub pass-one : Passed c.extent.order c.extent.size w s (past c.extent.order c.extent.size w s')
     pass-one =
         record {
           begun = omega (arith, d.begun);
@@ -68,10 +68,10 @@ module _ {c : Scope} {first : ℕ} {w : List ℕ} {s : Peel} (o : OneSided c fir
         }
 
   -- when all are passed and the other side is counted by what is left, each degree is the number of edges to places not dropped
-  module _ {s' : Peel} {w' : List ℕ} {least : ℕ} (d : Passed c.order c.size w s s') (e : s'.head ≡ s'.tail) (f : least ≡ need_of c first)
-      (r : Recounted c.order c.size first least c.order w w') where
+  module _ {s' : Peel} {w' : List ℕ} {least : ℕ} (d : Passed c.extent.order c.extent.size w s s') (e : s'.head ≡ s'.tail) (f : least ≡ need_of c first)
+      (r : Recounted c.extent.order c.extent.size first least c.extent.order w w') where
     -- the queue is as it was
-    queued : Queued c.order c.size (need_of c) w s'
+    queued : Queued c.extent.order c.extent.size (need_of c) w s'
     queued =
         record {
           rows = k.queued.rows;
@@ -81,37 +81,37 @@ module _ {c : Scope} {first : ℕ} {w : List ℕ} {s : Peel} (o : OneSided c fir
         }
 
     -- no need has changed
-    step : Step c.order c.size (need_of c) (need_of c) w w' s'
+    step : Step c.extent.order c.extent.size (need_of c) (need_of c) w w' s'
     step = record { queued = queued; kept = r.recounting.kept; more = λ p b. le_refl _; same = λ i b. sym (r.recounting.queue i) }
 
     -- nor whether a place has enough
-    enough : (p : ℕ) → p < 2 * c.order → leb (need_of c p) (degree_of c.order c.size w p) ≡ leb (need_of c p) (degree_of c.order c.size w' p)
+    enough : (p : ℕ) → p < 2 * c.extent.order → leb (need_of c p) (degree_of c.extent.order c.extent.size w p) ≡ leb (need_of c p) (degree_of c.extent.order c.extent.size w' p)
     enough p b =
         ⊎_elim (λ u. rw (r.same p u))
-        (λ u. rw (o.free p u) (le-leb 0 (degree_of c.order c.size w p) (omega arith) ∙ sym (le-leb 0 (degree_of c.order c.size w' p) (omega arith))))
+        (λ u. rw (o.free p u) (le-leb 0 (degree_of c.extent.order c.extent.size w p) (omega arith) ∙ sym (le-leb 0 (degree_of c.extent.order c.extent.size w' p) (omega arith))))
         (side-either o.side p b)
 
     -- the other side has its edges to what is left
-    other-degree : (p : ℕ) → OnSide c.order (c.order - first) p → degree_of c.order c.size w' p ≡ undropped c.order c.size w s' p
+    other-degree : (p : ℕ) → OnSide c.extent.order (c.extent.order - first) p → degree_of c.extent.order c.extent.size w' p ≡ undropped c.extent.order c.extent.size w s' p
     other-degree p u =
         r.counted p u
-        ∙ sum-ext c.order each
-        ∙ sym (degree-across k.total.held.tabled o.side (live (queue_of c.order c.size w) s'.head) p u)
+        ∙ sum-ext c.extent.order each
+        ∙ sym (degree-across k.total.held.tabled o.side (live (queue_of c.extent.order c.extent.size w) s'.head) p u)
       where
         -- what is left of this side is what has enough
-        is-left : (q : ℕ) → OnSide c.order first q → live (queue_of c.order c.size w) s'.head q ≡ leb least (degree_of c.order c.size w q)
-        is-left q v = rw (e, d.tail, f, ← need-side c.order c.x c.y o.side v.0 v.1) (k.queued.queue.short q (side-place o.side v))
+        is-left : (q : ℕ) → OnSide c.extent.order first q → live (queue_of c.extent.order c.extent.size w) s'.head q ≡ leb least (degree_of c.extent.order c.extent.size w q)
+        is-left q v = rw (e, d.tail, f, ← need-side c.extent.order c.x c.y o.side v.0 v.1) (k.queued.queue.short q (side-place o.side v))
 
         -- and an edge stands in both rows
-        each : (j : ℕ) → j < c.order
-            → if (leb least (degree_of c.order c.size w (first + j))) (between c.order w (first + j) p)
-            ≡ if (live (queue_of c.order c.size w) s'.head (first + j)) (between c.order w p (first + j))
+        each : (j : ℕ) → j < c.extent.order
+            → if (leb least (degree_of c.extent.order c.extent.size w (first + j))) (between c.extent.order w (first + j) p)
+            ≡ if (live (queue_of c.extent.order c.extent.size w) s'.head (first + j)) (between c.extent.order w p (first + j))
         each j l =
-            let v : OnSide c.order first (first + j) = (omega arith, omega arith) in
+            let v : OnSide c.extent.order first (first + j) = (omega arith, omega arith) in
             rw (is-left (first + j) v, k.queued.rows.symmetric (first + j) p (side-place o.side v) (side-place (side-other o.side) u))
 
     -- so the peel goes on from there
-    pub thin-ends : Peeling c.order c.size (need_of c) w' s'
+    pub thin-ends : PeelBy c w' s'
     thin-ends =
         record {
           queued = queued-stays step enough;
@@ -119,5 +119,5 @@ module _ {c : Scope} {first : ℕ} {w : List ℕ} {s : Peel} (o : OneSided c fir
           total = total_kept d.total r.recounting.kept (λ i b. sym (r.recounting.queue i)) refl refl;
         }
       where
-        kept-degree : (p : ℕ) → p < 2 * c.order → undropped c.order c.size w s' p ≡ undropped c.order c.size w' s' p
+        kept-degree : (p : ℕ) → p < 2 * c.extent.order → undropped c.extent.order c.extent.size w s' p ≡ undropped c.extent.order c.extent.size w' s' p
         kept-degree p b = degree-kept k.queued.rows r.recounting.kept s'.head p (λ i b. sym (r.recounting.queue i)) b

@@ -10,7 +10,7 @@ use std::io::{ErrorKind, Read};
 pub struct Unreadable;
 
 // Reads until the input ends or the buffer is full, whatever comes at once, and answers how many bytes came. A read that a signal interrupts is
-// tried again.
+// tried again, more often than can be, but not without end.
 pub fn read_input<R: Read>(reader: &mut R, buffer: &mut [u8]) -> Result<usize, Unreadable>
     ensures { Fills (R.remaining reader.old) (R.remaining reader.new) result buffer.new }
 {

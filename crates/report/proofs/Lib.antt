@@ -1,3 +1,4 @@
 pub mod Decimal
 pub mod Lengths
+pub mod Cuts
 pub mod Examples

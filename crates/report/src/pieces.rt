@@ -1,4 +1,4 @@
-// Each function appends a text to one that has room for it. What `write!` puts there is promised only where it answers `Ok`, which nothing promises, so
+// The first two append a text to one that has room for it. What `write!` puts there is promised only where it answers `Ok`, which nothing promises, so
 // the parts are pushed.
 ghost use Rattle.std.specs.Prelude.{◌≡◌, ◌+◌, ◌≤◌, ◌++◌, length};
 ghost use Rattle.report.specs.Text.{Begins, spaced, label};

@@ -49,12 +49,11 @@ fn put_numbers<const N: usize>(text: &mut ArrayString<N>, k: Numbers)
 
 // The members that are in the group.
 #[tactic(auto, unfolding(graph::specs::Range::flat))]
-fn put_members<const N: usize>(text: &mut ArrayString<N>, group: &[u8], n: usize)
-    requires n_in { n ≤ length group.now }
-    requires room { length text.old.bytes + length (members_text group.now n) ≤ N }
-    ensures { text.new.bytes ≡ text.old.bytes ++ members_text group.now n }
+fn put_members<const N: usize>(text: &mut ArrayString<N>, group: &[u8])
+    requires { length text.old.bytes + length (members_text group.now (length group.now)) ≤ N }
+    ensures { text.new.bytes ≡ text.old.bytes ++ members_text group.now (length group.now) }
 {
-    for (u, byte) in group[..n].iter().enumerate() {
+    for (u, byte) in group.iter().enumerate() {
         if *byte == 1 {
             put_spaced(text, u);
         }
@@ -62,28 +61,26 @@ fn put_members<const N: usize>(text: &mut ArrayString<N>, group: &[u8], n: usize
 }
 
 #[tactic(auto, unfolding(crate::specs::Text::group_text))]
-fn put_group<const N: usize>(text: &mut ArrayString<N>, letter: &str, group: &[u8], n: usize)
-    requires n_in { n ≤ length group.now }
-    requires room { length text.old.bytes + length (group_text letter.now group.now n) ≤ N }
-    ensures { text.new.bytes ≡ text.old.bytes ++ group_text letter.now group.now n }
+fn put_group<const N: usize>(text: &mut ArrayString<N>, letter: &str, group: &[u8])
+    requires { length text.old.bytes + length (group_text letter.now group.now (length group.now)) ≤ N }
+    ensures { text.new.bytes ≡ text.old.bytes ++ group_text letter.now group.now (length group.now) }
 {
     text.push_str(letter);
-    put_members(text, group, n);
+    put_members(text, group);
     text.push_str("\n");
 }
 
-// Lays the report at the start of the buffer, and answers its length. The groups are tables of n bytes or more: 1 in, 0 out.
+// Lays the report at the start of the buffer, and answers its length. The groups are tables of all members: 1 in, 0 out.
 #[tactic(auto, using(crate::proofs::Lengths::numbers_longest, crate::proofs::Lengths::group_longest), unfolding(crate::specs::Text::report_text))]
-pub fn put_report(numbers: Numbers, s: &[u8], t: &[u8], n: usize, out: &mut [u8]) -> usize
-    requires members { n ≤ most_members }
-    requires s_holds { n ≤ length s.now }
-    requires t_holds { n ≤ length t.now }
+pub fn put_report(numbers: Numbers, s: &[u8], t: &[u8], out: &mut [u8]) -> usize
+    requires members { length s.now ≤ most_members }
+    requires same_length { length t.now ≡ length s.now }
     requires room { longest_report ≤ length out.old }
-    ensures { Begins out.old (report_text numbers s.now t.now n) out.new result }
+    ensures { Begins out.old (report_text numbers s.now t.now (length s.now)) out.new result }
 {
     let mut report = ArrayString::<LONGEST_REPORT>::new();
     put_numbers(&mut report, numbers);
-    put_group(&mut report, "S", s, n);
-    put_group(&mut report, "T", t, n);
+    put_group(&mut report, "S", s);
+    put_group(&mut report, "T", t);
     lay(report.as_str(), out)
 }

@@ -7,6 +7,7 @@ use Rattle.graph.specs.Core.{EqualLevel}
 use Rattle.graph.specs.Quiet.{ring, quiet}
 use Rattle.graph.proofs.Search.{best-finding}
 use Rattle.graph.proofs.Quiet.{equal-level-zero, quiet-core}
+use Rattle.network.specs.declared.Extent.{Extent}
 use Rattle.network.specs.declared.Totals.{Totals}
 use Rattle.peeling.specs.Peeling.{Tabled}
 use Rattle.grouping.specs.Groups.{CoreIn}
@@ -17,21 +18,21 @@ use Rattle.climbing.proofs.Levels.{climbed-level}
 use Rattle.searching.specs.declared.Best.{Best}
 use Rattle.searching.specs.Searches.{Searched, FoundIn}
 
-module _ {n m k : ℕ} {w w' : List ℕ} (c : Climbed n m Both 0 1 w w' k) where
+module _ (e : Extent) {k : ℕ} {w w' : List ℕ} (c : Climbed e.order e.size Both 0 1 w w' k) where
   -- a climb from 1 comes to the equal level
-  equal-level : {g : Graph} → Tabled g n m w → EqualLevel g k
+  equal-level : {g : Graph} → Tabled g e.order e.size w → EqualLevel g k
   equal-level t = climbed-level Both 0 1 c (λ h. h) t
 
   -- where it is 0, the core of any x and y of at least 1 is empty, and nothing is found
-  pub quiet-found : {x y : ℕ} {v s s' t t' : List ℕ} {r : Totals} → k ≡ 0 → 1 ≤ x → 1 ≤ y → CoreIn (record { order = n; size = m; x = x; y = y }) w' v s s' t t' r
-      → FoundIn n m w v s s' t t' (record { x = 0; y = 0; equal = 0; totals = r })
-  quiet-found e p q i =
+  pub quiet-found : {x y : ℕ} {v s s' t t' : List ℕ} {r : Totals} → k ≡ 0 → 1 ≤ x → 1 ≤ y → CoreIn (record { extent = e; x = x; y = y }) w' v s s' t t' r
+      → FoundIn e.order e.size w v s s' t t' (record { x = 0; y = 0; equal = 0; totals = r })
+  quiet-found z p q i =
       record {
         outcome =
             λ g t.
-            let z = (equal-level-zero t.closed (equal-level t)).0 e in
-            quiet z (quiet-core t.closed z p q (i.core g (tabled-kept t c.kept)));
-        equal = λ g t. rw e at (equal-level t);
+            let none = (equal-level-zero t.closed (equal-level t)).0 z in
+            quiet none (quiet-core t.closed none p q (i.core g (tabled-kept t c.kept)));
+        equal = λ g t. rw z at (equal-level t);
         counted = λ g t. i.counted g (tabled-kept t c.kept);
         sources = i.sources;
         targets = i.targets;
@@ -39,9 +40,9 @@ module _ {n m k : ℕ} {w w' : List ℕ} (c : Climbed n m Both 0 1 w w' k) where
       }
 
   -- and where it is not, the core of the best that a search up to there comes to is the finding
-  pub ring-found : {w'' v s s' t t' : List ℕ} {b : Best} {r : Totals} → 1 ≤ k → Searched n m k w' w'' b
-      → CoreIn (record { order = n; size = m; x = b.x; y = b.y }) w'' v s s' t t' r
-      → FoundIn n m w v s s' t t' (record { x = b.x; y = b.y; equal = k; totals = r })
+  pub ring-found : {w'' v s s' t t' : List ℕ} {b : Best} {r : Totals} → 1 ≤ k → Searched e.order e.size k w' w'' b
+      → CoreIn (record { extent = e; x = b.x; y = b.y }) w'' v s s' t t' r
+      → FoundIn e.order e.size w v s s' t t' (record { x = b.x; y = b.y; equal = k; totals = r })
   ring-found {w'' = w''} p h i =
       record {
         outcome =
@@ -54,5 +55,5 @@ module _ {n m k : ℕ} {w w' : List ℕ} (c : Climbed n m Both 0 1 w w' k) where
         kept = kept_next (kept_next c.kept h.kept) i.kept;
       }
     where
-      after : {g : Graph} → Tabled g n m w → Tabled g n m w''
+      after : {g : Graph} → Tabled g e.order e.size w → Tabled g e.order e.size w''
       after t = tabled-kept t (kept_next c.kept h.kept)

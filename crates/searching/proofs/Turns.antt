@@ -2,8 +2,7 @@
 use Prim.Native.Nat.{ℕ, ◌-◌, ◌<◌, ◌≤◌}
 use mathlib.Core.List.{List}
 use mathlib.Core.Logic.{◌⊎◌, inl, inr, ⊎_elim}
-use mathlib.Core.Path.{◌≡◌, refl, sym}
-use native.Mathlib.Nat.{eq-or-lt_of_le}
+use mathlib.Core.Path.{◌≡◌, refl}
 use native.Mathlib.Omega.{arith}
 use Rattle.graph.specs.Graph.{Graph}
 use Rattle.graph.specs.Core.{Nonempty, EqualLevel, Before}
@@ -95,15 +94,12 @@ search-ends s all =
 
 -- 1 is the first number that is tried,
 pub down-first : (k i : ℕ) → down_tried k k i → none_tried i ⊎ (i ≡ 1)
-down-first k i h = ⊎_elim (λ e. inr e) (λ (p, q). absurd (omega arith)) h
+down-first k i h = grind arith
 
 -- then each number below the last one,
 pub down-next : {k fixed : ℕ} → 1 ≤ fixed → (i : ℕ) → down_tried k (fixed - 1) i → down_tried k fixed i ⊎ (i ≡ fixed)
-down-next {k} {fixed} l i h = ⊎_elim (λ e. inl (inl e)) (λ (p, q). next q (omega arith)) h
-  where
-    next : i ≤ k → fixed ≤ i → down_tried k fixed i ⊎ (i ≡ fixed)
-    next q r = ⊎_elim (λ e. inr (sym e)) (λ p. inl (inr (p, q))) (eq-or-lt_of_le r)
+down-next l i h = grind arith
 
 -- and down to 1 these are all
 pub down-all : {k fixed : ℕ} → fixed ≤ 1 → (i : ℕ) → 1 ≤ i → i ≤ k → down_tried k fixed i
-down-all e i p q = ⊎_elim (λ h. inl (sym h)) (λ l. inr (omega arith, q)) (eq-or-lt_of_le p)
+down-all e i p q = grind arith

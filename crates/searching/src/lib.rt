@@ -1,9 +1,19 @@
 // The search for the finding: the non-empty core with the greatest x * y.
 #![tactic(auto)]
 
+ghost use Rattle.std.specs.Prelude.{◌<◌, ◌≤◌};
+
 mod searches;
 
-use network::Totals;
+use network::{Side, Totals};
+
+// A row of the search, where the need of the sources is fixed, or a column, where that of the targets is. The other need runs.
+#[derive(Clone, Copy, Debug, PartialEq, Eq)]
+struct Line {
+    side: Side,
+    fixed: usize,
+    ghost in_range: { (1 ≤ fixed) × (fixed < 65536) },
+}
 
 // The best [x,y] so far.
 #[derive(Clone, Copy, PartialEq, Eq, Debug)]

@@ -1,12 +1,13 @@
 // The search for the best [x,y], row by row and then column by column, up to the equal level.
+// The lent table goes beside its extent, and what it holds is said at each call: a struct with both would have each call promise that it still holds
+// the same table.
 ghost use Rattle.std.specs.Prelude.{false, ◌↔◌, ◌≡◌, ℕ, ◌+◌, ◌*◌, ◌<◌, ◌≤◌, length};
 ghost use Rattle.graph.specs.Core.{Before};
-ghost use Rattle.network.specs.File.{most_members};
-ghost use Rattle.peeling.specs.Peeling.{Small, Held, start_of};
+ghost use Rattle.peeling.specs.Peeling.{Held, start_of};
 ghost use Rattle.climbing.specs.Climbs.{rising, Longest, Climbed};
 ghost use Rattle.searching.specs.Searches.{rise_of, pair_at, InRange, FirstBetter, Tries, Reaches, Searched, FoundIn};
 
-use crate::{Best, Ring};
+use crate::{Best, Line, Ring};
 use climbing::{Rise, climb, longest_row};
 use grouping::core_in;
 use network::{Extent, Side};
@@ -24,32 +25,15 @@ fn rise_of(side: Side) -> Rise
 
 // The most edges of one place in the whole graph, on the side that rises where the need of the other is fixed. Past it every core of a row or
 // column is empty.
-fn longest_of(work: &[u16], order: usize, side: Side) -> usize
-    requires order { order ≤ most_members }
-    requires long { 2 * order < length work.now }
-    requires ascending { (p : ℕ) → p < 2 * order → start_of work.now p ≤ start_of work.now (p + 1) }
-    ensures longest { Longest (rising order (rise_of side)) work.now (2 * order) result }
+fn longest_of(work: &[u16], extent: Extent, side: Side) -> usize
+    requires long { 2 * extent.order < length work.now }
+    requires ascending { (p : ℕ) → p < 2 * extent.order → start_of work.now p ≤ start_of work.now (p + 1) }
+    ensures longest { Longest (rising extent.order (rise_of side)) work.now (2 * extent.order) result }
     ensures fits { result < 65536 }
 {
     match side {
-        Side::Source => longest_row(work, order, 2 * order),
-        Side::Target => longest_row(work, 0, order),
-    }
-}
-
-// The pair at a number of a row or column: with x fixed that number is y, with y fixed it is x.
-fn pair_at(side: Side, fixed: usize, number: usize) -> Best
-    ensures { result ≡ pair_at side fixed number }
-{
-    match side {
-        Side::Source => Best {
-            x: fixed,
-            y: number,
-        },
-        Side::Target => Best {
-            x: number,
-            y: fixed,
-        },
+        Side::Source => longest_row(work, extent.order, 2 * extent.order),
+        Side::Target => longest_row(work, 0, extent.order),
     }
 }
 
@@ -68,78 +52,77 @@ fn is_better(pair: Best, best: Best) -> bool
     (best_product, apart, pair.x) < (product, best_apart, best.x)
 }
 
-// Where a row or column begins to be better than the best: up to the quotient no product is greater than that of the best, and past it each is, so
-// that it is the quotient or the number after it.
-fn start_of(side: Side, fixed: usize, best: Best) -> usize
-    requires fixed { (1 ≤ fixed) × (fixed < 65536) }
-    requires in_range { InRange best }
-    ensures { FirstBetter side fixed best result }
-{
-    let quotient = best.x * best.y / fixed;
-    let pair = pair_at(side, fixed, quotient);
-    if is_better(pair, best) {
-        return quotient;
+impl Line {
+    // The pair at a number of the row or column: with x fixed that number is y, with y fixed it is x.
+    fn pair_at(self, number: usize) -> Best
+        ensures { result ≡ pair_at self.side self.fixed number }
+    {
+        match self.side {
+            Side::Source => Best {
+                x: self.fixed,
+                y: number,
+            },
+            Side::Target => Best {
+                x: number,
+                y: self.fixed,
+            },
+        }
     }
-    quotient + 1
+
+    // Where it begins to be better than the best: up to the quotient no product is greater than that of the best, and past it each is, so that it
+    // is the quotient or the number after it.
+    fn start(self, best: Best) -> usize
+        requires { InRange best }
+        ensures { FirstBetter self.side self.fixed best result }
+    {
+        let quotient = best.x * best.y / self.fixed;
+        if is_better(self.pair_at(quotient), best) {
+            return quotient;
+        }
+        quotient + 1
+    }
 }
 
 // The last number from `start` on at which the core of a row or column is not empty, or start - 1. Of x = 1, or of y = 1, it is `longest`, the
 // most edges of a place that rises: that place and all that it is joined to are such a pair, and nothing is climbed.
-fn last_of(
-    work: &mut [u16],
-    extent: Extent,
-    side: Side,
-    longest: usize,
-    fixed: usize,
-    start: usize,
-) -> usize
-    requires small { Small extent.order extent.size }
+fn last_of(work: &mut [u16], extent: Extent, line: Line, longest: usize, start: usize) -> usize
     requires held { Held extent.order extent.size work.old }
-    requires longest { Longest (rising extent.order (rise_of side)) work.old (2 * extent.order) longest }
+    requires longest { Longest (rising extent.order (rise_of line.side)) work.old (2 * extent.order) longest }
     requires start { (1 ≤ start) × (start ≤ longest) }
     requires fits { longest < 65536 }
-    ensures { Climbed extent.order extent.size (rise_of side) fixed start work.old work.new result }
+    ensures { Climbed extent.order extent.size (rise_of line.side) line.fixed start work.old work.new result }
 {
-    if fixed == 1 {
+    if line.fixed == 1 {
         return longest;
     }
-    climb(work, extent, rise_of(side), fixed, start)
+    climb(work, extent, rise_of(line.side), line.fixed, start)
 }
 
 // The better of the best and the last core of a row or column. Where it begins past `longest`, the most edges of a place that rises, no core from
-// there on has anybody, and nothing is climbed.
-fn try_one(
-    work: &mut [u16],
-    extent: Extent,
-    side: Side,
-    longest: usize,
-    fixed: usize,
-    best: Best,
-) -> Best
-    requires small { Small extent.order extent.size }
+// there on has anybody, and nothing is climbed. It is a `usize` that fits 16 bits, since it is compared with numbers that are.
+fn try_one(work: &mut [u16], extent: Extent, line: Line, longest: usize, best: Best) -> Best
     requires held { Held extent.order extent.size work.old }
-    requires longest { Longest (rising extent.order (rise_of side)) work.old (2 * extent.order) longest }
+    requires longest { Longest (rising extent.order (rise_of line.side)) work.old (2 * extent.order) longest }
     requires fits { longest < 65536 }
-    requires fixed { (1 ≤ fixed) × (fixed < 65536) }
     requires in_range { InRange best }
-    ensures { Tries extent.order extent.size side fixed best work.old work.new result }
+    ensures { Tries extent.order extent.size line.side line.fixed best work.old work.new result }
 {
-    let start = start_of(side, fixed, best);
+    let start = line.start(best);
     if longest < start {
         return best;
     }
-    let last = last_of(work, extent, side, longest, fixed, start);
+    let last = last_of(work, extent, line, longest, start);
     if last < start {
         return best;
     }
-    pair_at(side, fixed, last)
+    line.pair_at(last)
 }
 
 // Every row and then every column up to k: first that of 1, which needs no climb, then from k down, so that of equal products the more even pair,
 // which comes first, is also found first, and the others begin one past the tie. The longest row of the places that rise is the same for a whole
 // side, so it is looked for once.
+#[tactic(auto, using(peeling::proofs::Totals::held_kept))]
 fn search_from(work: &mut [u16], extent: Extent, k: usize, start: Best) -> Best
-    requires small { Small extent.order extent.size }
     requires held { Held extent.order extent.size work.old }
     requires equal { (1 ≤ k) × (k < 65536) }
     requires reaches { Reaches extent.order extent.size k work.old start }
@@ -147,10 +130,10 @@ fn search_from(work: &mut [u16], extent: Extent, k: usize, start: Best) -> Best
 {
     let mut best = start;
     let mut side = Side::Source;
-    // 01 names the form of these two loops.
+    // 01: the nested search is left by its label, from within; so the inner loop is no `for`.
     'search: loop {
-        let longest = longest_of(work, extent.order, side);
-        best = try_one(work, extent, side, longest, 1, best);
+        let longest = longest_of(work, extent, side);
+        best = try_one(work, extent, Line { side, fixed: 1 }, longest, best);
         let mut fixed = k;
         loop {
             if fixed <= 1 {
@@ -159,7 +142,7 @@ fn search_from(work: &mut [u16], extent: Extent, k: usize, start: Best) -> Best
                 }
                 break;
             }
-            best = try_one(work, extent, side, longest, fixed, best);
+            best = try_one(work, extent, Line { side, fixed }, longest, best);
             fixed -= 1;
         }
         side = Side::Target;
@@ -169,22 +152,26 @@ fn search_from(work: &mut [u16], extent: Extent, k: usize, start: Best) -> Best
 
 // The same, from the better of [k,k] and the column of 1, which needs no climb: the better the best is to begin with, the more rows are passed over
 // or soon empty.
+#[tactic(auto, using(peeling::proofs::Totals::held_kept))]
 fn search(work: &mut [u16], extent: Extent, k: usize) -> Best
-    requires small { Small extent.order extent.size }
     requires held { Held extent.order extent.size work.old }
     requires equal { (1 ≤ k) × (k < 65536) }
     ensures { Searched extent.order extent.size k work.old work.new result }
 {
-    let longest = longest_of(work, extent.order, Side::Target);
+    let longest = longest_of(work, extent, Side::Target);
     let equal = Best { x: k, y: k };
-    let start = try_one(work, extent, Side::Target, longest, 1, equal);
+    let first = Line {
+        side: Side::Target,
+        fixed: 1,
+    };
+    let start = try_one(work, extent, first, longest, equal);
     search_from(work, extent, k, start)
 }
 
 // 01: the finding, of every graph whose rows the table holds. Where the equal level is 0 there is no edge: x and y are 0, and the groups are those
 // of the [1,1]-core, which is empty (that of [0,0] is everybody).
+#[tactic(auto, using(peeling::proofs::Totals::held_kept, peeling::proofs::Kept::kept_next))]
 pub fn find_in(work: &mut [u16], extent: Extent, s: &mut [u8], t: &mut [u8]) -> Ring
-    requires small { Small extent.order extent.size }
     requires held { Held extent.order extent.size work.old }
     requires room { (extent.order ≤ length s.old) × (extent.order ≤ length t.old) }
     ensures { FoundIn extent.order extent.size work.old work.new s.old s.new t.old t.new result }

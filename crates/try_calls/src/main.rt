@@ -1,4 +1,5 @@
 // A client of the library: some calls on network W of 01, and on no bytes at all, over tables of its own. What it prints is in the file stdout.
+// The handle that prints and the file that is read have nothing to do with one another, so they stay two parameters.
 #![tactic(auto)]
 
 use cogsplice::{Refusal, Side};

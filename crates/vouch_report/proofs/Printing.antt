@@ -4,8 +4,9 @@ use Prim.Native.Nat.{ℕ, ◌≤◌}
 use mathlib.Core.List.{List}
 use mathlib.Core.Path.{◌≡◌, refl, sym, ap, ◌∙◌}
 use native.Mathlib.Omega.{arith}
-use lib.ListN.{length, length-replicate}
+use lib.ListN.{length, take, length-replicate}
 use Rattle.std.specs.Prelude.{Option, None, Some, Result, Ok, Err}
+use Rattle.std.proofs.lemmas.List.{length-take-le}
 use Rattle.std.proofs.lemmas.Option.{none-some, same_Some}
 use Rattle.network.specs.declared.Refusal.{Refusal}
 use Rattle.network.specs.File.{most_members, most_links, graph_of, file_refusal}
@@ -19,6 +20,7 @@ use Rattle.cores.proofs.Everyone.{ones, ones-all, ones-group}
 use Rattle.searching.specs.declared.Ring.{Ring}
 use Rattle.finding.specs.Findings.{FindingTold, FindingCall}
 use Rattle.report.specs.Text.{refusal_text, report_text, Begins, Rendered}
+use Rattle.report.proofs.Cuts.{report-cut}
 use Rattle.vouch_report.specs.Printed.{Prints}
 use Rattle.vouch_report.specs.Parts.{numbers_of}
 
@@ -40,6 +42,13 @@ finding-full f = go (file_refusal f) refl
 -- the lengths of the program's tables
 abbrev pub Full : List ℕ → List ℕ → List ℕ → Type 0
 Full s t w = (length s ≡ most_members) × (length t ≡ most_members) × (length w ≡ work_length most_members most_links)
+
+-- two tables can be cut to n entries
+pub record Cut (n : ℕ) (s t : List ℕ) : Type 0 where
+  pub s-holds : n ≤ length s
+  pub s-length : n ≡ length (take n s)
+  pub t-holds : n ≤ length t
+  pub t-length : n ≡ length (take n t)
 
 module _ {f s s' t t' w w' : List ℕ} {a : Result Ring Refusal} (z : Full s t w) (c : FindingCall f ones ones s s' t t' w w' a) where
   -- in them the call is refused as the file is
@@ -68,16 +77,25 @@ module _ {f s s' t t' w w' : List ℕ} {a : Result Ring Refusal} (z : Full s t w
   ]
 
   -- so its file is accepted,
-  pub found-sound : (g : Ring) → a ≡ Ok g → Sound f
+  found-sound : (g : Ring) → a ≡ Ok g → Sound f
   found-sound g i = ((file.accepted f).0 (sym call-refusal ∙ (found-told g i).0)).sound
 
+  -- the tables can be cut to its members,
+  pub found-cut : (g : Ring) → a ≡ Ok g → length s' ≡ length s → length t' ≡ length t → {n : ℕ} → n ≡ (graph_of f).order → Cut n s' t'
+  found-cut g i p q {n} e =
+      let most = (found-sound g i).header.order-most in
+      let k : n ≤ length s' = omega (arith, z, p, most, e) in
+      let l : n ≤ length t' = omega (arith, z, q, most, e) in
+      record { s-holds = k; s-length = sym (length-take-le n s' k); t-holds = l; t-length = sym (length-take-le n t' l) }
+
   -- and its report is printed
-  pub rendered-found : {before after : List ℕ} {r : ℕ} (g : Ring) → a ≡ Ok g → {n : ℕ} → n ≡ (graph_of f).order → Begins before (report_text (numbers_of g) s' t' n) after r → Rendered (Prints f) before after r
-  rendered-found g i {n} e b =
+  pub rendered-found : {before after : List ℕ} {r : ℕ} (g : Ring) → a ≡ Ok g → {n k : ℕ} → n ≡ (graph_of f).order → k ≡ n
+      → Begins before (report_text (numbers_of g) (take n s') (take n t') k) after r → Rendered (Prints f) before after r
+  rendered-found g i {n} e k b =
       let (h, d) = found-told g i in
       let all = ones-all (graph_of f).order (found-sound g i).header.order-most in
       record {
-        text = report_text (numbers_of g) s' t' n;
+        text = report_text (numbers_of g) s' t' (graph_of f).order;
         told = record {
           refused = λ q u. absurd (none-some q (sym (sym call-refusal ∙ h) ∙ u));
           accepted = λ u. record {
@@ -87,8 +105,8 @@ module _ {f s s' t t' w w' : List ℕ} {a : Result Ring Refusal} (z : Full s t w
             outcome = d.outcome.former all all;
             equal = d.equal.former all all;
             counted = let k = d.groups.counted in (ap (λ c. c.edges) k, ap (λ c. c.sources) k, ap (λ c. c.targets) k);
-            same = ap (report_text (numbers_of g) s' t') e;
+            same = refl;
           };
         };
-        begins = b;
+        begins = rw (← e, ← report-cut (numbers_of g) s' t' n) (rw k at b);
       }

@@ -10,7 +10,7 @@ use network::{MOST_MEMBERS, MOST_WORK, order_of};
 use report::{LONGEST_REPORT, Numbers};
 use searching::Ring;
 
-// `usize` has no `From<u32>`.
+// No `From`: both types are of other crates. And `usize` has no `From<u32>`.
 fn numbers_of(ring: Ring) -> Numbers
     ensures { result ≡ numbers_of ring }
 {
@@ -38,7 +38,10 @@ fn render(file: &[u8], out: &mut [u8]) -> usize
     let Ok(ring) = answer else {
         return report::put_refusal(answer.unwrap_err(), out);
     };
-    report::put_report(numbers_of(ring), &s, &t, order_of(file), out)
+    let n = order_of(file);
+    let s = &s[..n];
+    let t = &t[..n];
+    report::put_report(numbers_of(ring), s, t, out)
 }
 
 fn main(rt: HostRuntime) {

@@ -6,13 +6,13 @@ use Rattle.linkset.proofs.begin_of.Goals as goal
 use Rattle.linkset.proofs.begin_of.Goals.{else-place-ge4-via-then-place-ge4+else-set-place, else-place-ge4-via-else-place-ge4}
 
 pub returns-then-set-place : goal.returns-then-set-place
-returns-then-set-place c m s few v at =
-    c.search.ensures m s (rw c.saturating_sub-low.ensures (begins-far _ m _ s few v _ at c.if-place-ge4.true c.if-set-place.true))
+returns-then-set-place c s few v at =
+    c.search.ensures s (rw c.saturating_sub-low.ensures (begins-far _ _ s few v _ at c.if-place-ge4.true c.if-set-place.true))
 
 pub returns : goal.returns
-returns c m s few v at =
-    let near = begins-near _ m _ s few v _ at in
-    c.search-2.ensures m s
+returns c s few v at =
+    let near = begins-near _ _ s few v _ at in
+    c.search-2.ensures s
     (rw c.saturating_sub-low-2.ensures
     (near (elim c.else-place-ge4.branch [
       | else-place-ge4-via-then-place-ge4+else-set-place w ↦ inr w.if-set-place.false

@@ -6,5 +6,5 @@ pub loop-left-preserved : goal.loop-left-preserved
 loop-left-preserved g c =
     record {
       within = omega (arith, told-most c.loop-left.left c.loop-left-test.true, c.passed-low.ensures.most, c.told-left.ensures, c.loop-left.invariant.within);
-      narrowed = λ m s n. rw (c.passed-low.ensures.count, c.told-left.ensures) (narrowed-next _ _ m _ _ s (c.loop-left.invariant.narrowed m s n) c.loop-left-test.true);
+      narrowed = λ s n. rw (c.passed-low.ensures.count, c.told-left.ensures) (narrowed-next _ _ _ _ s (c.loop-left.invariant.narrowed s n) c.loop-left-test.true);
     }

@@ -1,5 +1,5 @@
 -- `search` narrows the links that may come before the one sought, until none is left. The invariant: so they are narrowed, if they were at first.
-use Rattle.std.proofs.Common.{ℕ, ◌+◌, ◌≤◌}
+use Rattle.std.proofs.Common.{◌+◌, ◌≤◌, length}
 use Rattle.linkset.specs.Tables.{Sorted, earlier, Narrowed}
 use Rattle.linkset.proofs.search.Given as goal
 
@@ -7,8 +7,8 @@ abbrev pub invariant-loop-left : goal.invariant-loop-left
 invariant-loop-left g l =
     record {
       within : l.low + l.left ≤ l.initial.low + l.initial.left;
-      narrowed : (m : ℕ) → Sorted l.set m → Narrowed (earlier g.row.ENDS l.set l.link.source l.link.target) m l.initial.low l.initial.left
-          → Narrowed (earlier g.row.ENDS l.set l.link.source l.link.target) m l.low l.left;
+      narrowed : Sorted l.set → Narrowed (earlier g.row.ENDS l.set l.link.source l.link.target) (length l.set) l.initial.low l.initial.left
+          → Narrowed (earlier g.row.ENDS l.set l.link.source l.link.target) (length l.set) l.low l.left;
     }
 
 abbrev pub decreases-loop-left : goal.decreases-loop-left

@@ -5,8 +5,8 @@ use Rattle.network.proofs.Answers.{call-told}
 use Rattle.network.proofs.Accepted.{accepted}
 use Rattle.calls.proofs.checks.check.Goals as goal
 
-pub returns-in_err-check_file : goal.returns-in_err-check_file
-returns-in_err-check_file c = call-told _ (search rules) (search rules)
+pub returns-in_err-file : goal.returns-in_err-file
+returns-in_err-file c = call-told _ (search rules) (search rules)
 
 pub returns : goal.returns
-returns c = call.accepted _ ((accepted c.args.file.now).1 (search rules)) refl (search rules)
+returns c = rw (← c.in_ok-file.ensures.passed) (call.accepted _ ((accepted _).1 c.in_ok-file.file.accepted) refl (search rules))

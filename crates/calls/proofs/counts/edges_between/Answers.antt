@@ -21,15 +21,15 @@ loop-e-init c = sym (sum-empty _)
 
 pub overflow_add-total : goal.overflow_add-total
 overflow_add-total c =
-    let g = graph_of c.args.file.now in
+    let g = graph_of c.args.file.now.bytes.now in
     omega (
       arith,
-      more c.args.file.now c.args.s.now c.args.t.now c.loop-e.e _ _ _ _ c.end_at-source.ensures.0 c.end_at-target.ensures.0 c.from-total.ensures c.loop-e.invariant,
+      more c.args.file.now.bytes.now c.args.s.now c.args.t.now c.loop-e.e _ _ _ _ c.end_at-source.ensures.0 c.end_at-target.ensures.0 c.from-total.ensures c.loop-e.invariant,
       c.size_of-size.ensures,
-      c.requires.sound.header.size-most,
+      c.args.file.now.accepted.sound.header.size-most,
       sum-tests (λ d. group_of c.args.s.now (g.source d) && group_of c.args.t.now (g.target d)) (c.loop-e.e + 1),
     )
 
 pub loop-e-preserved : goal.loop-e-preserved
 loop-e-preserved c =
-    more c.args.file.now c.args.s.now c.args.t.now c.loop-e.e _ _ _ _ c.end_at-source.ensures.0 c.end_at-target.ensures.0 c.from-total.ensures c.loop-e.invariant
+    more c.args.file.now.bytes.now c.args.s.now c.args.t.now c.loop-e.e _ _ _ _ c.end_at-source.ensures.0 c.end_at-target.ensures.0 c.from-total.ensures c.loop-e.invariant

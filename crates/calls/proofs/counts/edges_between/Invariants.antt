@@ -7,5 +7,5 @@ use Rattle.calls.proofs.counts.edges_between.Given as goal
 
 abbrev pub invariant-loop-e : goal.invariant-loop-e
 invariant-loop-e l =
-    let g = graph_of l.file in
+    let g = graph_of l.file.bytes.now in
     l.total ≡ sum (λ d. if (group_of l.s (g.source d) && group_of l.t (g.target d)) 1) l.e

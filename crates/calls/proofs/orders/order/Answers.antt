@@ -2,5 +2,5 @@
 use Rattle.calls.proofs.Writer.{order-accepted}
 use Rattle.calls.proofs.orders.order.Goals as goal
 
-pub returns-then-is_accepted : goal.returns-then-is_accepted
-returns-then-is_accepted c = order-accepted _ _ _ (c.is_accepted.ensures c.if-is_accepted.true) c.write_accepted.ensures
+pub returns-in-Some : goal.returns-in-Some
+returns-in-Some c = rw (← c.in-Some.ensures) (order-accepted _ _ _ c.in-Some.file.accepted c.write_accepted.ensures)

@@ -9,5 +9,5 @@ use Rattle.calls.proofs.orders.put_edges.Given as goal
 
 abbrev pub invariant-loop-i : goal.invariant-loop-i
 invariant-loop-i l =
-    let g = graph_of l.file in
+    let g = graph_of l.file.bytes.now in
     l.out ≡ sets l.initial.out 9 (flat (λ i. edge_bytes (g.source (edge_at g i)) (g.target (edge_at g i))) l.i)

@@ -2,22 +2,31 @@
 use Rattle.std.proofs.Common.{rules, ◌≤◌, length, refl, arith}
 use Rattle.network.specs.Calls as call
 use Rattle.network.specs.File.{link_at, graph_of, old_refusal}
-use Rattle.network.specs.Accepted.{Distinct}
 use Rattle.network.specs.Refusals.{out_refusal}
 use Rattle.network.proofs.Accepted.{old-accepted}
 use Rattle.network.proofs.Answers.{call-told, call-refused, or_else-told}
+use Rattle.graph.proofs.Order.{precedes-strict}
+use Rattle.graph.proofs.Sorting.{sorted-cut}
 use Rattle.calls.proofs.Writer.{out-short, out_none, rewritten}
 use Rattle.calls.proofs.orders.sort_file.Goals as goal
 
-pub returns-in_err-check_old : goal.returns-in_err-check_old
+pub returns-in_err-file : goal.returns-in_err-file
 unfolding out_refusal
-returns-in_err-check_old c = call-told _ (search rules) (or_else-told (old_refusal c.args.file.now) _ _ (search rules))
+returns-in_err-file c = call-told _ (search rules) (or_else-told (old_refusal c.args.file.now) _ _ (search rules))
 
 pub returns-then-out-link_at : goal.returns-then-out-link_at
-returns-then-out-link_at c = call-refused (out-short _ _ ((old-accepted _).1 (search rules)) (search rules))
+returns-then-out-link_at c =
+    let tested = c.in_ok-file.ensures in
+    call-refused (out-short _ _ ((old-accepted _).1 tested.distinct) (omega (arith, c.link_at.ensures, rw tested.passed at c.size_of-size.ensures, c.if-out-link_at.true)))
+
+pub put_file-requires-clause-sorted : goal.put_file-requires-clause-sorted
+put_file-requires-clause-sorted c =
+    let file = c.in_ok-file.file.bytes.now in
+    sorted-cut _ _ (precedes-strict (graph_of file)) (omega (arith, c.size_of-size.ensures)) (rw c.in_ok-file.ensures.passed c.in_ok-file.ensures.sorted)
 
 pub returns : goal.returns
 returns c =
-    let distinct : Distinct c.args.file.now = search rules in
-    let long : link_at (graph_of c.args.file.now).size ≤ length c.args.out.now = omega (arith, c.size_of-size.ensures, c.link_at.ensures) in
-    call.accepted _ (out_none _ _ ((old-accepted _).1 distinct) long) refl (rewritten _ distinct long c.size_of-size.ensures.0 c.put_file.ensures)
+    let tested = c.in_ok-file.ensures in
+    let size = rw tested.passed at c.size_of-size.ensures in
+    let long : link_at (graph_of c.args.file.now).size ≤ length c.args.out.now = omega (arith, size, c.link_at.ensures, c.if-out-link_at.false) in
+    call.accepted _ (out_none _ _ ((old-accepted _).1 tested.distinct) long) refl (rewritten _ tested.distinct long size.0 (rw tested.passed at c.put_file.ensures))

@@ -8,3 +8,6 @@ use Rattle.calls.proofs.writes.write.Goals as goal
 pub returns-in_err-check_file : goal.returns-in_err-check_file
 unfolding out_refusal
 returns-in_err-check_file c = call-told _ (search rules) (or_else-told (file_refusal c.args.file.now) _ _ (search rules))
+
+pub returns : goal.returns
+returns c = rw (← c.in_ok-check_file.ensures.passed) c.write_accepted.ensures

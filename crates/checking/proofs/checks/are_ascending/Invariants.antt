@@ -5,4 +5,4 @@ use Rattle.network.specs.File.{graph_of}
 use Rattle.checking.proofs.checks.are_ascending.Given as goal
 
 abbrev pub invariant-loop-e : goal.invariant-loop-e
-invariant-loop-e l = l.ascending ≡ true → (d : ℕ) → suc d < l.e → ascends (graph_of l.file) d (suc d) ≡ true
+invariant-loop-e l = l.ascending ≡ true → (d : ℕ) → suc d < l.e → ascends (graph_of l.file.bytes.now) d (suc d) ≡ true

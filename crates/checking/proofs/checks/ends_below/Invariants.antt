@@ -4,4 +4,4 @@ use Rattle.network.specs.File.{u16_at}
 use Rattle.checking.proofs.checks.ends_below.Given as goal
 
 abbrev pub invariant-loop-i : goal.invariant-loop-i
-invariant-loop-i l = l.below ≡ true → (j : ℕ) → j < l.i → u16_at l.file (9 + 2 * j) < l.order
+invariant-loop-i l = l.below ≡ true → (j : ℕ) → j < l.i → u16_at l.file.bytes.now (9 + 2 * j) < l.order

@@ -22,7 +22,7 @@ falls-at g n (Some k) q h = record { edge = omega (arith, h.1); some = h.0; befo
 
 pub returns : goal.returns
 returns c =
-    let g = graph_of c.args.file.now in
+    let g = graph_of c.args.file.now.bytes.now in
     falls-at g _ c.find.result c.size_of-size.ensures.0
     (first_from_Range _ _ _ _ (λ i. ascends g (i - 1) i ≡ false) (λ i. ascends g (i - 1) i ≡ true) c.find.ensures.ran
     (λ x q k. search (rules, tests)) (λ x q k. (search rules, search (rules, tests))))

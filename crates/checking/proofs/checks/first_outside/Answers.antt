@@ -22,7 +22,7 @@ first-outside g n (Some k) q h =
 
 pub returns : goal.returns
 returns c =
-    let g = graph_of c.args.file.now in
+    let g = graph_of c.args.file.now.bytes.now in
     first-outside g _ c.find.result c.size_of-size.ensures.0
     (first_from_Range _ _ _ _ (λ i. names-outside g i ≡ true) (λ i. names-outside g i ≡ false) c.find.ensures.ran
     (λ x q k. search (rules, tests)) (λ x q k. (search rules, search (rules, tests))))

@@ -1,10 +1,10 @@
-use Rattle.std.proofs.Common.{◌≡◌, ℕ, List, suc, ◌<◌, ◌≤◌, ◌+◌, ◌-◌, ◌∙◌, length, take, drop, length-take, get_or, sym, ap, arith}
+use Rattle.std.proofs.Common.{◌≡◌, ℕ, List, suc, ◌<◌, ◌≤◌, ◌+◌, ◌-◌, ◌∙◌, length, drop, get_or, sym, ap, arith}
 use Rattle.std.proofs.lemmas.Iterator.{window_more}
 use Rattle.std.specs.Slice.Iter.{windows_rest}
 use Rattle.graph.specs.Graph.{Graph}
 use Rattle.graph.specs.Order.{edge_at}
 use Rattle.graph.proofs.Order.{precedes-strict, edge_at-lt}
-use Rattle.graph.proofs.Sorting.{sorted-front}
+use Rattle.graph.proofs.Sorting.{sorted-nth}
 use Rattle.checking.proofs.Repeats.{least-last, least-taken, least-kept}
 use Rattle.network.specs.File.{graph_of}
 use Rattle.checking.proofs.checks.least_repeat.Goals.{After-from-edge}
@@ -20,15 +20,15 @@ record Pair (g : Graph) (all rest rest' : List ℕ) (i before edge : ℕ) : Type
   left : rest' ≡ drop (length all - length rest') all
 
 -- each pair is so
-pair : (c : After-from-edge) → let all = take (c.size_of-size.result - 0) c.args.order.now in let rest = windows_rest c.loop-pair.pair-iterator in
-    Pair (graph_of c.args.file.now) all rest (windows_rest c.next.new.self) (length all - length rest) c.from-before.result c.from-edge.result
+pair : (c : After-from-edge) → let all = c.args.order.now in let rest = windows_rest c.loop-pair.pair-iterator in
+    Pair (graph_of c.args.file.now.bytes.now) all rest (windows_rest c.next.new.self) (length all - length rest) c.from-before.result c.from-edge.result
 pair c =
-    let all = take (c.size_of-size.result - 0) c.args.order.now in
+    let all = c.args.order.now in
     let v = c.loop-pair.invariant in
     let i = length all - length (windows_rest c.loop-pair.pair-iterator) in
     let (fewer, left, some, reads) = window_more all c.loop-pair.pair-iterator c.next.new.self _ _ c.in-Some.is c.next.ensures.steps (omega arith) v.short v.left in
-    let inside : suc i < (graph_of c.args.file.now).size = omega (arith, some, v.pairs, v.short, length-take {A = ℕ}, c.size_of-size.ensures) in
-    let entry = sorted-front (precedes-strict (graph_of c.args.file.now)) c.requires.sorted c.size_of-size.ensures.0 in
+    let inside : suc i < (graph_of c.args.file.now.bytes.now).size = omega (arith, some, v.pairs, v.short, c.requires.length) in
+    let entry = sorted-nth (precedes-strict (graph_of c.args.file.now.bytes.now)) c.requires.sorted in
     record {
       inside = inside;
       first = c.from-before.ensures ∙ reads 0 0 (omega (arith, v.pairs)) ∙ ap (λ k. get_or all k 0) (omega arith) ∙ entry i (omega arith);
@@ -40,11 +40,11 @@ pair c =
 
 pub is_same-requires : goal.is_same-requires
 is_same-requires c =
-    let g = graph_of c.args.file.now in
-    let p = pair c in
-    let i = length (take (c.size_of-size.result - 0) c.args.order.now) - length (windows_rest c.loop-pair.pair-iterator) in
+    let g = graph_of c.args.file.now.bytes.now in
+    let p = pair (goal.at.is_same-requires c).After-from-edge in
+    let i = length (c.args.order.now) - length (windows_rest c.loop-pair.pair-iterator) in
     let inside : i < g.size = omega (arith, p.inside) in
-    ((c.requires.sound.header, omega (arith, p.first, inside, edge_at-lt g i inside)), (c.requires.sound.header, omega (arith, p.second, edge_at-lt g (suc i) p.inside)))
+    (omega (arith, p.first, inside, edge_at-lt g i inside), omega (arith, p.second, edge_at-lt g (suc i) p.inside))
 
 pub loop-pair-preserved-then-is_same : goal.loop-pair-preserved-then-is_same
 loop-pair-preserved-then-is_same c =
@@ -68,6 +68,6 @@ loop-pair-preserved c =
 
 pub returns : goal.returns
 returns c =
-    let all = take (c.size_of-size.result - 0) c.args.order.now in
+    let all = c.args.order.now in
     let rest = windows_rest c.loop-pair.pair-iterator in
-    least-last (graph_of c.args.file.now) (length all - length rest + 1) c.loop-pair.least (omega (arith, c.in-None.ensures.steps.1.0, c.loop-pair.invariant.pairs, length-take {A = ℕ}, c.requires.room, c.size_of-size.ensures)) c.loop-pair.invariant.found
+    least-last (graph_of c.args.file.now.bytes.now) (length all - length rest + 1) c.loop-pair.least (omega (arith, c.in-None.ensures.steps.1.0, c.loop-pair.invariant.pairs, c.requires.length)) c.loop-pair.invariant.found

@@ -6,7 +6,7 @@ least_left-k-requires-clause-some c = climb-some c.loop-extent.invariant (cc) c.
 
 pub loop-extent-preserved : goal.loop-extent-preserved
 loop-extent-preserved c =
-    climb-next c.loop-extent.invariant c.asked-scope.ensures c.least_left-k.ensures.least (cc) c.least_left-k.ensures.fits c.asked-in-loop-extent.ensures c.advance-peel.ensures
+    climb-next c.loop-extent.invariant c.asked-scope.ensures c.least_left-k.ensures.least (cc) c.least_left-k.ensures.fits (rw (c.asked-scope.ensures, c.asked-x.ensures) at c.advance-peel.ensures)
 
 pub returns : goal.returns
 returns c =

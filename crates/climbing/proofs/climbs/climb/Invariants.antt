@@ -6,7 +6,7 @@ use Rattle.climbing.proofs.Climbing.{Climbing}
 use Rattle.climbing.proofs.climbs.climb.Given as goal
 
 abbrev pub invariant-loop-extent : goal.invariant-loop-extent
-invariant-loop-extent l = Climbing l.extent.order l.extent.size l.rise l.fixed l.start l.initial.work l.work l.k l.peel
+invariant-loop-extent l = Climbing l.extent l.rise l.fixed l.start l.initial.work l.work l.k l.peel
 
 abbrev pub decreases-loop-extent : goal.decreases-loop-extent
 decreases-loop-extent l = l.start + 65536 - l.k

@@ -1,11 +1,11 @@
-use Rattle.std.proofs.Common.{◌≡◌, ℕ, ◌+◌, ◌-◌, ◌*◌, ◌<◌, ◌≤◌, Bool, true, cond, ◌&&◌, leb, ltb, min, ◌⊎◌, inl, inr, List, Result, Ok, Err, take, drop, length, get_or, ap, sym, ◌∙◌, le_trans, arith, leb-true, le-leb}
-use mathlib.Core.Bool.{false≢true}
-use native.Mathlib.Decide.{dec_le, dec_lt}
-use borrow.Author.Tests.{lt-leb, lt-ltb, le-ltb}
+use Rattle.std.proofs.Common.{◌≡◌, ℕ, ◌+◌, ◌-◌, ◌*◌, ◌<◌, ◌≤◌, Bool, true, cond, ◌&&◌, leb, ltb, min, ◌⊎◌, inl, inr, List, Result, Ok, Err, take, drop, length, get_or, ap, sym, ◌∙◌, le_trans, arith, le-leb}
+use native.Mathlib.Decide.{dec_lt}
+use Rattle.std.proofs.lemmas.Bool.Decides.{nat_tests}
+use borrow.Author.Tests.{lt-leb}
 use Rattle.std.specs.Result.{OkIff, result_unwrap_or}
 use Rattle.std.specs.declared.num.TryFromIntError.{TryFromIntError}
 use Rattle.std.proofs.lemmas.List.{get_or-take, get_or-drop, length-take, length-take-le, length-drop}
-use Rattle.graph.proofs.Tests.{and_left, and_right, and_both}
+use Rattle.graph.proofs.Tests.{and_both}
 use Rattle.peeling.specs.declared.Scope.{Scope}
 use Rattle.peeling.specs.Peeling.{need_of, degree_of}
 use Rattle.climbing.specs.declared.Rise.{Rise}
@@ -16,36 +16,29 @@ use Rattle.climbing.proofs.climbs.least_left.Goals as goal
 use Rattle.climbing.proofs.climbs.least_left.Goals.{then-degree-enough, else-degree-enough}
 
 -- the least of those from the first place that rises up to the end is the least of all that are left and rise
-rests-lowest : (c : Scope) (rise : Rise) (w : List ℕ) (k : ℕ) {at first end least : ℕ} → at ≡ 2 * c.order + 1 + 2 * c.size
-    → first ≡ first_rising c.order rise → end ≡ end_rising c.order rise → ((p : ℕ) → rising c.order rise p ≡ true → need_of c p ≡ k)
+rests-lowest : (c : Scope) (rise : Rise) (w : List ℕ) (k : ℕ) {at first end least : ℕ} → at ≡ 2 * c.extent.order + 1 + 2 * c.extent.size
+    → first ≡ first_rising c.extent.order rise → end ≡ end_rising c.extent.order rise → ((p : ℕ) → rising c.extent.order rise p ≡ true → need_of c p ≡ k)
     → Lowest (λ p. leb first p && leb k (get_or w (at + p) 0)) (λ p. get_or w (at + p) 0) end least
-    → Lowest (rests c rise w) (degree_of c.order c.size w) (2 * c.order) least
+    → Lowest (rests c rise w) (degree_of c.extent.order c.extent.size w) (2 * c.extent.order) least
 rests-lowest c rise w k {first = first} {end} a f e needed o =
-    lowest-skips (omega (arith, e, (rising-range c.order rise).1)) same (λ p l h. rw (rising-past c.order rise p (omega (arith, e, l)) h)) (rw a at o)
+    lowest-skips (omega (arith, e, (rising-range c.extent.order rise).1)) same (λ p l h. rw (rising-past c.extent.order rise p (omega (arith, e, l)) h)) (rw a at o)
   where
-    same : (p : ℕ) → p < end → (leb first p && leb k (degree_of c.order c.size w p)) ≡ rests c rise w p
-    same p l =
-        elim (dec_le first p) [
-          | yes h ↦ let r = rising-between c.order rise p (omega (arith, f, h)) (omega (arith, e, l)) in rw (le-leb first p h, r, needed p r)
-          | no h ↦ rw (lt-leb first p (omega arith), rising-before c.order rise p (omega (arith, f, h)))
-        ]
+    same : (p : ℕ) → p < end → (leb first p && leb k (degree_of c.extent.order c.extent.size w p)) ≡ rests c rise w p
+    same p l = grind (arith, nat_tests, rising-between c.extent.order rise p, rising-before c.extent.order rise p, needed p)
 
 -- a place that is left and rises is one of these, and has at least k edges
-rests-inside : (c : Scope) (rise : Rise) (w : List ℕ) (k : ℕ) {at first end : ℕ} → at ≡ 2 * c.order + 1 + 2 * c.size
-    → first ≡ first_rising c.order rise → end ≡ end_rising c.order rise → ((p : ℕ) → rising c.order rise p ≡ true → need_of c p ≡ k)
-    → (p : ℕ) → p < 2 * c.order → rests c rise w p ≡ true → (first ≤ p) × (p < end) × (k ≤ get_or w (at + p) 0)
-rests-inside c rise w k {first = first} {end} a f e needed p l h =
-    let up = and_left (rising c.order rise p) _ h in
-    let enough = leb-true (need_of c p) (degree_of c.order c.size w p) (and_right (rising c.order rise p) _ h) in (
-      elim (dec_le first p) [ yes m ↦ m | no m ↦ absurd (false≢true (sym (rising-before c.order rise p (omega (arith, f, m))) ∙ up)) ],
-      elim (dec_lt p end) [ yes m ↦ m | no m ↦ absurd (false≢true (sym (rising-past c.order rise p (omega (arith, e, m)) l) ∙ up)) ],
-      rw (a, ← needed p up) enough,
-    )
+rests-inside : (c : Scope) (rise : Rise) (w : List ℕ) (k : ℕ) {at first end : ℕ} → at ≡ 2 * c.extent.order + 1 + 2 * c.extent.size
+    → first ≡ first_rising c.extent.order rise → end ≡ end_rising c.extent.order rise → ((p : ℕ) → rising c.extent.order rise p ≡ true → need_of c p ≡ k)
+    → (p : ℕ) → p < 2 * c.extent.order → rests c rise w p ≡ true → (first ≤ p) × (p < end) × (k ≤ get_or w (at + p) 0)
+rests-inside c rise w k a f e needed p l h = (
+  grind (arith, nat_tests, rising-before c.extent.order rise p),
+  grind (arith, nat_tests, rising-past c.extent.order rise p),
+  rw a (grind (arith, nat_tests, needed p)),
+)
 
 -- the lesser of `least` and a degree that counts only where it is at least k
 counts : (k d least counted : ℕ) → least < 65536 → ((d < k) × (counted ≡ 65535)) ⊎ ((k ≤ d) × (counted ≡ d)) → min least counted ≡ cond (leb k d && ltb d least) d least
-counts k d least counted top (inl (h, e)) = rw (lt-leb k d h) (omega arith)
-counts k d least counted top (inr (h, e)) = rw (le-leb k d h) (elim (dec_lt d least) [ yes l ↦ rw (lt-ltb d least l) (omega arith) | no l ↦ rw (le-ltb d least (omega arith)) (omega arith) ])
+counts k d least counted top h = grind (arith, nat_tests)
 
 -- k in 16 bits, or the greatest number of these where it is greater
 narrow : (r : Result ℕ TryFromIntError) (k u : ℕ) → OkIff r (k < 65536) k → u ≡ result_unwrap_or r 65535 → (u ≤ k) × (k < 65536 → u ≡ k)
@@ -80,7 +73,7 @@ loop-degree-preserved c =
     record {
       lowest =
           lowest-next o.lowest
-          (rw (entry c.args.work.now _ _ c.loop-degree.degree-index c.loop-degree-test.true) (omega (arith, c.type_inv.work (c.degrees_at-at.result + c.first_rising.result + c.loop-degree.degree-index))))
+          (rw (entry c.args.work.now _ _ c.loop-degree.degree-index c.loop-degree-test.true) (omega (arith, c.type_inv.work (c.degrees_at-at.result + c.first.result + c.loop-degree.degree-index))))
           (cc (counts _ _ _ _ o.fits (elim c.if-degree-enough.branch [
             | then-degree-enough w ↦ inl (w.if-degree-enough.true, w.counted-is)
             | else-degree-enough w ↦ inr (w.if-degree-enough.false, w.counted-is)
@@ -94,18 +87,15 @@ returns-clause-least c =
     let l = c.loop-degree in
     let s = c.requires.some in
     let at = c.degrees_at-at.ensures in
-    let first = c.first_rising.ensures in
-    let end = c.end_rising.ensures in
-    let range = rising-range a.scope.order a.rise in
-    let long : c.degrees_at-at.result + c.end_rising.result ≤ length a.work.now = omega (arith, range.0, range.1) in
-    let n = c.degrees_at-at.result + c.end_rising.result - (c.degrees_at-at.result + c.first_rising.result) in
-    let all : l.degree-index ≡ n = omega (arith, size a.work.now (c.degrees_at-at.result + c.first_rising.result) n (omega (arith, range.0))) in
-    let o = placed a.work.now c.unwrap_or-enough.result c.degrees_at-at.result c.first_rising.result c.end_rising.result n l.least (omega (arith, range.0)) long (rw all at l.invariant.lowest) in
+    let first = c.first.ensures in
+    let end = c.end.ensures in
+    let range = rising-range a.scope.extent.order a.rise in
+    let long : c.degrees_at-at.result + c.end.result ≤ length a.work.now = omega (arith, range.0, range.1) in
+    let n = c.degrees_at-at.result + c.end.result - (c.degrees_at-at.result + c.first.result) in
+    let all : l.degree-index ≡ n = omega (arith, size a.work.now (c.degrees_at-at.result + c.first.result) n (omega (arith, range.0))) in
+    let o = placed a.work.now c.unwrap_or-enough.result c.degrees_at-at.result c.first.result c.end.result n l.least (omega (arith, range.0)) long (rw all at l.invariant.lowest) in
     let enough = narrow c.try_from.result a.k _ c.try_from.ensures c.unwrap_or-enough.ensures in
     let (i, j, h) = rests-inside a.scope a.rise a.work.now a.k at first end c.requires.needed s.number s.below s.passes in
     let small = o.small s.number j (and_both (le-leb _ _ i) (le-leb _ _ (le_trans enough.0 h))) in
     let same : c.unwrap_or-enough.result ≡ a.k = enough.1 (omega arith) in
     rw c.from.ensures (lowest-ends (rests-lowest a.scope a.rise a.work.now a.k at first end c.requires.needed (rw same at o)) s)
-
-pub returns-clause-fits : goal.returns-clause-fits
-returns-clause-fits c = omega (arith, c.from.ensures)

@@ -1,10 +1,10 @@
 -- The pair of a turn is the start of a row, and that of the next one.
-use Rattle.std.proofs.Common.{ℕ, ◌≡◌, ◌+◌, ◌-◌, ◌<◌, ◌≤◌, max, leb, ◌⊎◌, inl, inr, List, length, take, drop, get_or, ap, ◌∙◌, arith, le-leb}
+use Rattle.std.proofs.Common.{ℕ, ◌≡◌, ◌+◌, ◌-◌, ◌<◌, max, leb, List, length, take, drop, get_or, ap, ◌∙◌, arith}
+use Rattle.std.proofs.lemmas.Bool.Decides.{nat_tests}
 use native.Mathlib.Decide.{dec_lt}
 use borrow.Author.Count.{below_more}
 use Rattle.std.proofs.lemmas.List.{get_or-take, get_or-drop, length-append, length-take}
 use Rattle.std.proofs.lemmas.Slice.Zip.{zip_turn}
-use Rattle.graph.proofs.Tests.{and_both}
 use Rattle.peeling.specs.Peeling.{row_length}
 use Rattle.climbing.specs.Climbs.{Longest}
 use Rattle.climbing.proofs.lengths.longest_row.Goals as goal
@@ -14,21 +14,14 @@ longest-next : (from i longest r : ℕ) (w : List ℕ) → r ≡ row_length w (f
     → Longest (λ p. leb from p) w (from + (i + 1)) (max longest r)
 longest-next from i longest r w e o =
     let next : from + (i + 1) ≡ from + i + 1 = omega arith in
-    rw next (elim (dec_lt longest r) [ yes l ↦ pick _ (inr (omega arith, l)) | no l ↦ pick _ (inl (omega arith, omega arith)) ])
-  where
-    pick : (k : ℕ) → ((k ≡ longest) × (r ≤ longest)) ⊎ ((k ≡ r) × (longest < r)) → Longest (λ p. leb from p) w (from + i + 1) k
-    pick k (inl (q, l)) =
-        rw q
-        record {
-          all = below_more _ _ o.all (λ up. omega arith);
-          reached = λ m. let s = o.reached m in record { number = s.number; below = omega (arith, s.below); passes = s.passes };
-        }
-    pick k (inr (q, l)) =
-        rw q
-        record {
-          all = below_more _ _ (λ p b up. omega (arith, o.all p b up)) (λ up. omega arith);
-          reached = λ m. record { number = from + i; below = omega arith; passes = and_both (le-leb from (from + i) (omega arith)) (le-leb _ _ (omega arith)) };
-        }
+    rw next
+    record {
+      all = below_more _ _ (λ p b up. omega (arith, o.all p b up)) (λ up. omega arith);
+      reached = λ m. elim (dec_lt longest r) [
+        | yes l ↦ record { number = from + i; below = omega arith; passes = grind (arith, nat_tests) }
+        | no l ↦ let s = o.reached (omega arith) in record { number = s.number; below = omega (arith, s.below); passes = grind (arith, nat_tests, s.passes) }
+      ];
+    }
 
 -- an entry of a part of a table
 entry : (w : List ℕ) (a n i : ℕ) → i < length (take n (drop a w)) → get_or (take n (drop a w)) i 0 ≡ get_or w (a + i) 0

@@ -6,4 +6,4 @@ use Rattle.filling.proofs.listings.pick_edges.Goals as goal
 
 pub loop-edge-preserved : goal.loop-edge-preserved
 loop-edge-preserved c =
-    listing-next c.is_between.result c.loop-edge.invariant (omega arith) c.requires.room (ap (λ t. if t 1) (sym c.is_between.ensures)) (c.from-count.ensures ∙ number-of_test _)
+    listing-next c.is_between.result c.loop-edge.invariant (omega arith) c.requires (ap (λ t. if t 1) (sym c.is_between.ensures)) (c.from-count.ensures ∙ number-of_test _)

@@ -10,4 +10,4 @@ pub overflow_sub-least : goal.overflow_sub-least
 overflow_sub-least c = found_size c.requires.held c.best_state-best.ensures
 
 pub returns : goal.returns
-returns c = harmonic-read c.best_state-best.ensures c.write_group.ensures c.write_group-2.ensures
+returns c = harmonic-read c.best_state-best.ensures (rw c.bracket_of-at.ensures at c.write_group.ensures) (rw c.bracket_of-at.ensures at c.write_group-2.ensures)

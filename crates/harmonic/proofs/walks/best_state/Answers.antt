@@ -8,17 +8,12 @@ use Rattle.harmonic.proofs.walks.best_state.Goals as goal
 pub returns-then-peel-eq0 : goal.returns-then-peel-eq0
 returns-then-peel-eq0 c =
     let e = rw c.of.ensures at c.fresh-peel.ensures in
-    tells_none e.peeling e.head e.kept c.requires.small c.if-peel-eq0.true
+    tells_none e.peeling e.head e.kept c.args.extent.small c.if-peel-eq0.true
 
 pub build-requires : goal.build-requires
 build-requires c =
     let e = rw c.of.ensures at c.fresh-peel.ensures in
-    rw c.bracket_of.ensures (room c.requires.small (some-order e.peeling e.head e.kept c.requires.held (omega arith)) (omega (arith, (held_rows c.requires.held).long)))
-
-pub walk-requires-clause-some_order : goal.walk-requires-clause-some_order
-walk-requires-clause-some_order c =
-    let e = rw c.of.ensures at c.fresh-peel.ensures in
-    some-order e.peeling e.head e.kept c.requires.held (omega arith)
+    rw c.bracket_of.ensures (room c.args.extent.small (some-order e.peeling e.head e.kept c.requires.held (omega arith)) (omega (arith, (held_rows c.requires.held).long)))
 
 pub walk-requires-clause-held : goal.walk-requires-clause-held
 walk-requires-clause-held c =

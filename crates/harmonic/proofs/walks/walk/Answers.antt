@@ -3,7 +3,7 @@ use Rattle.harmonic.proofs.Walking.{going-begins, going_size, going_next, going_
 use Rattle.harmonic.proofs.walks.walk.Goals as goal
 
 pub loop-place-init : goal.loop-place-init
-loop-place-init c = going-begins c.requires.some_order c.requires.tree c.requires.held c.requires.begins
+loop-place-init c = going-begins (omega (arith, c.requires.tree.room.some)) c.requires.tree c.requires.held c.requires.begins
 
 pub better_of-best-requires-clause-best_size : goal.better_of-best-requires-clause-best_size
 better_of-best-requires-clause-best_size c = omega (arith, going_size c.loop-place.invariant)
@@ -18,4 +18,4 @@ pub loop-place-preserved : goal.loop-place-preserved
 loop-place-preserved c = rw c.better_of-best.ensures (going_next c.loop-place.invariant c.turn-state.ensures)
 
 pub returns : goal.returns
-returns c = going-ends c.loop-place.invariant c.requires.small c.requires.some_order c.in_default.ensures
+returns c = going-ends c.loop-place.invariant c.args.extent.small (omega (arith, c.requires.tree.room.some)) c.in_default.ensures

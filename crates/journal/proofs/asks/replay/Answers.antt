@@ -1,4 +1,4 @@
-use Rattle.std.proofs.Common.{ap, ◌∙◌, arith}
+use Rattle.std.proofs.Common.{take, ap, ◌∙◌, arith}
 use Rattle.std.proofs.lemmas.List.Edits.{sets}
 use Rattle.journal.specs.Listed.{listed}
 use Rattle.journal.proofs.Files.{set-written}
@@ -8,5 +8,5 @@ use Rattle.journal.proofs.asks.replay.Goals as goal
 pub returns-clause-present : goal.returns-clause-present
 returns-clause-present c =
     let tabled = c.run-tally.ensures.tabled in
-    set-written _ _ _ _ c.requires.few tabled.sound.present tabled.present _ _ (omega (arith, c.requires.room, full-most _ _ _ c.run-tally.new.work _ tabled))
-    (c.put_set.ensures ∙ ap (λ n. sets c.args.out.now 0 (listed n c.run-tally.new.work c.run-tally.result.present.live)) c.u16_at.ensures.0)
+    set-written _ _ _ _ c.requires.few tabled.sound.present tabled.present (omega (arith, tabled.long, full-most _ _ _ c.run-tally.new.work _ tabled)) _ _ (omega (arith, c.requires.room, full-most _ _ _ c.run-tally.new.work _ tabled))
+    (c.put_set.ensures ∙ ap (λ n. sets c.args.out.now 0 (listed n (take c.run-tally.result.present.live c.run-tally.new.work))) c.u16_at.ensures.0)

@@ -1,29 +1,28 @@
-use Rattle.std.proofs.Common.{refl, ◌≡◌, ◌∙◌, arith}
+use Rattle.std.proofs.Common.{length, ◌≡◌, arith}
 use Rattle.journal.specs.Journal.{after}
-use Rattle.journal.proofs.Running.{name-at, tabled-begin, tabled-next, numbers-none, numbers-next}
+use Rattle.journal.proofs.Running.{tabled-begin, tabled-next, numbers-none, numbers-next}
 use Rattle.journal.proofs.runs.run.Goals as goal
 
 pub loop-i-init : goal.loop-i-init
 loop-i-init c =
     record {
-      tabled = rw (c.new-tally.ensures, c.u16_at-order.ensures.0) (tabled-begin c.args.journal.now c.args.work.now c.requires.few c.requires.room.0);
+      tabled = rw (c.new-tally.ensures, c.u16_at.ensures.0) (tabled-begin c.args.journal.now c.args.work.now c.requires.few c.requires.room);
       numbered = numbers-none c.args.journal.now c.args.results.now;
-      work_length = refl;
     }
-
-pub follow-requires-clause-name_in : goal.follow-requires-clause-name_in
-follow-requires-clause-name_in c = rw c.entry_at.ensures (name-at c.args.journal.now c.loop-i.i)
 
 pub loop-i-preserved : goal.loop-i-preserved
 loop-i-preserved c =
     let j = c.args.journal.now in
-    let order = c.u16_at-order.ensures.0 in
+    let order = c.u16_at.ensures.0 in
     let turned = rw (order, c.entry_at.ensures) at (c.follow.ensures (after j c.loop-i.i) (rw order c.loop-i.invariant.tabled)) in
     record {
       tabled = tabled-next j c.loop-i.i _ _ turned.tabled;
       numbered = rw c.number_told.ensures (numbers-next j c.args.results.now c.loop-i.results c.loop-i.i _ c.loop-i.invariant.numbered turned.number_is (omega (arith, c.requires.room)));
-      work_length = c.follow.auto.work ∙ c.loop-i.invariant.work_length;
     }
 
+-- every entry was followed
+ended : (c : goal.After-loop-i) → c.loop-i.i ≡ length c.args.results.now
+ended c = omega (arith, c.loop-i.auto.i-end, c.loop-i-test.false)
+
 pub returns-clause-tabled : goal.returns-clause-tabled
-returns-clause-tabled c = let end : c.loop-i.i ≡ c.args.count = omega (arith, c.loop-i.auto.i-end, c.loop-i-test.false) in rw (← end) c.loop-i.invariant.tabled
+returns-clause-tabled c = rw (← ended c) c.loop-i.invariant.tabled

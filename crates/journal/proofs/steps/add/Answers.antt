@@ -36,4 +36,4 @@ returns c s h =
     let (e, u, v) = c.in_ok-link.ensures.link in
     rw c.add.ensures
     (turned-add _ s _ _ h _ _ _ u v (rw e at c.place-at.ensures) _ (rw e at c.degree-given.ensures) (rw e at (sym c.is_at.ensures ∙ c.if-is_at.false)) _
-    c.check_place.ensures _ (search rules) (rw e at c.insert.ensures))
+    c.check_place.ensures _ (search rules) c.insert.auto.set (rw e at c.insert.ensures))

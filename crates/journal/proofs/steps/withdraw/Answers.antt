@@ -22,4 +22,4 @@ returns c s h =
     let (e, u, v) = c.in_ok-link.ensures.link in
     rw c.withdraw.ensures
     (turned-withdraw _ s _ _ h _ _ _ u v (rw e at c.place-at.ensures) _ (rw e at c.degree-given.ensures) _ (rw e at (sym c.is_at.ensures ∙ c.if-not-is_at.false))
-    c.remove.ensures)
+    c.remove.auto.set c.remove.ensures)

@@ -8,11 +8,11 @@ use Rattle.layering.proofs.takes.take_layer.Goals as goal
 pub returns-clause-one_more : goal.returns-clause-one_more
 returns-clause-one_more c =
     let a = c.args in
-    let g = graph_of a.file.now in
+    let g = graph_of a.file.now.bytes.now in
     let r = c.requires in
     let some = lists-some g a.edges.now r.lists r.some in
     record {
-      made = λ p m. taken-making r.accepted.sound.closed p a.layers.now m c.take_edges.ensures (omega arith)
+      made = λ p m. taken-making a.file.now.sound.closed p a.layers.now m c.take_edges.ensures (omega arith)
           (outcome-finding (c.find_in.ensures.outcome _ (rw c.order_of.ensures.0 c.fill.ensures.tabled)) some) c.sift.ensures;
       few = c.sift.ensures.few;
       layers-length = c.take_edges.ensures.same_length;

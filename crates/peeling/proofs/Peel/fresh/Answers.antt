@@ -7,8 +7,8 @@ use Rattle.peeling.proofs.Whole.{whole-peel}
 use Rattle.peeling.proofs.Peel.fresh.Goals as goal
 
 pub overflow_sub-work : goal.overflow_sub-work
-overflow_sub-work c = start_first (rows-kept (held_rows c.requires.held) c.fill_degrees.ensures.kept)
+overflow_sub-work c = start_first (rows-kept (held_rows c.requires) c.fill_degrees.ensures.kept)
 
 pub returns-clause-peeling : goal.returns-clause-peeling
 returns-clause-peeling c =
-    whole-peel c.requires.held c.fill_degrees.ensures.kept c.fill_degrees.ensures.degrees (c.from-edges.ensures, omega (arith, c.type_inv.work c.args.scope.order))
+    whole-peel c.requires c.fill_degrees.ensures.kept c.fill_degrees.ensures.degrees (c.from-edges.ensures, omega (arith, c.type_inv.work c.args.scope.extent.order))

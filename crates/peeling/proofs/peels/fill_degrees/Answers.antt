@@ -28,15 +28,12 @@ module _ (n m at : ℕ) (w a b d : List ℕ) (long : work_length n m ≤ length 
   filled-row : (i : ℕ) → i < 2 * n → get_or d i 0 ≡ row_length a i → degree_of n m (a ++ (d ++ drop (2 * n) b)) i ≡ row_length w i
   filled-row i h e = ap (λ t. get_or (a ++ (d ++ drop (2 * n) b)) (t + i) 0) (sym p) ∙ filled-degree i h ∙ e ∙ row-same i h
 
-pub returns-clause-kept : goal.returns-clause-kept
-returns-clause-kept c =
+pub returns : goal.returns
+returns c =
+    let n = c.args.scope.extent.order in
     let split = c.split_at_mut-starts.ensures in
-    let size : length c.loop-place.degree-items ≡ 2 * c.args.scope.order = omega (arith, length-take-le (2 * c.args.scope.order) c.split_at_mut-starts.result.1.now) in
-    filled-kept _ _ _ _ _ _ _ c.requires.rows.long c.degrees_at.ensures split.front split.back size
-
-pub returns-clause-degrees : goal.returns-clause-degrees
-returns-clause-degrees c p h =
-    let split = c.split_at_mut-starts.ensures in
-    let size : length c.loop-place.degree-items ≡ 2 * c.args.scope.order = omega (arith, length-take-le (2 * c.args.scope.order) c.split_at_mut-starts.result.1.now) in
-    filled-row _ _ _ _ _ _ _ c.requires.rows.long c.degrees_at.ensures split.front split.back size p h
-    (c.loop-place.invariant p (omega (arith, length-take-le (2 * c.args.scope.order) c.split_at_mut-starts.result.1.now)))
+    let size : length c.loop-place.degree-items ≡ 2 * n = omega (arith, length-take-le (2 * n) c.split_at_mut-starts.result.1.now) in
+    record {
+      kept = filled-kept _ _ _ _ _ _ _ c.requires.long c.degrees_at.ensures split.front split.back size;
+      degrees = λ p h. filled-row _ _ _ _ _ _ _ c.requires.long c.degrees_at.ensures split.front split.back size p h (c.loop-place.invariant p (omega arith));
+    }

@@ -1,5 +1,4 @@
--- `lower_key` meets its contract. The loop's invariant is `Rising`: the place has reached node k, or k is 0, and where k is less than 2 none
--- waits. The measure is k.
+-- `lower_key` meets its contract. The loop's invariant is `Rising`: the place has reached node k. The measure is k.
 use Rattle.picking.proofs.Rises.{Rising}
 use Rattle.picking.proofs.Bracket.lower_key.Given as goal
 

@@ -1,13 +1,14 @@
 -- `raise_side` pushes every place of one side that falls short of the new numbers; a side that needs what it needed has nobody to push. The
 -- loop's invariant: the places passed need the new numbers, the others the old ones, and the peel goes by these.
 use Rattle.std.proofs.Common.{◌≡◌}
-use Rattle.peeling.specs.Peeling.{need_of, Peeling, Kept, raised}
+use Rattle.peeling.specs.Peeling.{Kept}
+use Rattle.raising.specs.Steps.{Raising}
 use Rattle.raising.proofs.needs.raise_side.Given as goal
 
 abbrev pub invariant-loop-place : goal.invariant-loop-place
 invariant-loop-place l =
     record {
-      peeling : Peeling l.scope.order l.scope.size (raised (need_of l.scope) (need_of l.next) l.place) l.work l.peel;
+      peeling : Raising l.step l.place l.work l.peel;
       head : l.peel.head ≡ l.initial.peel.head;
-      kept : Kept l.scope.order l.scope.size l.initial.work l.work;
+      kept : Kept l.step.scope.extent.order l.step.scope.extent.size l.initial.work l.work;
     }

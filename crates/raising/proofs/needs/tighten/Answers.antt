@@ -4,7 +4,7 @@ use Rattle.raising.proofs.Raises.{raise-begins, raise-ends}
 use Rattle.raising.proofs.needs.tighten.Goals as goal
 
 pub raise_side-sources-requires-clause-peeling : goal.raise_side-sources-requires-clause-peeling
-raise_side-sources-requires-clause-peeling c = raise-begins _ _ c.requires.peeling
+raise_side-sources-requires-clause-peeling c = raise-begins _ _ c.requires
 
 pub returns-clause-peeling : goal.returns-clause-peeling
 returns-clause-peeling c = raise-ends _ _ _ (omega arith) c.raise_side.ensures.peeling

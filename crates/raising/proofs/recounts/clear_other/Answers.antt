@@ -1,5 +1,5 @@
 -- The part that is filled holds the degrees of the other side, and nothing else.
-use Rattle.std.proofs.Common.{ℕ, ◌≡◌, ◌+◌, ◌-◌, ◌*◌, ◌<◌, ◌≤◌, List, length, get_or, take, drop, replicate, ◌⊎◌, inl, inr, ⊎_elim, ap, ◌∙◌, rules, arith}
+use Rattle.std.proofs.Common.{ℕ, ◌≡◌, ◌+◌, ◌-◌, ◌*◌, ◌<◌, ◌≤◌, List, length, get_or, take, drop, replicate, ◌⊎◌, inl, inr, ap, ◌∙◌, rules, arith}
 use borrow.Rule.Slice.PartMut.{put_mid}
 use Rattle.std.proofs.lemmas.List.{places, length-replicate}
 use Rattle.std.proofs.lemmas.Slice.{drop-put_mid}
@@ -29,13 +29,13 @@ module _ (n m first a k : ℕ) (w ys : List ℕ) (long : work_length n m ≤ len
           };
           queue = λ i. other (4 * n + 1 + 2 * m + i) (inr (omega arith));
         };
-        same = λ i o. other (2 * n + 1 + 2 * m + i) (⊎_elim (λ z. inl (omega arith)) (λ z. inr (omega arith)) side);
+        same = λ i o. other (2 * n + 1 + 2 * m + i) (grind arith);
         zero = λ i h. ap (λ j. get_or (put_mid a k w ys) j 0) (omega arith) ∙ inside i h;
       }
 
 pub returns : goal.returns
 returns c =
-    let n = c.args.scope.order in
+    let n = c.args.scope.extent.order in
     let a = c.degrees_at.result + n - c.args.first in
     let room : length (take (a + n - a) (drop a c.args.work.now)) ≡ a + n - a = search (rules, places) in
     cleared n _ _ a (a + n - a) _ _ c.requires.long c.requires.side (omega arith) (omega arith) (c.fill.ensures.after (λ y k. k) ∙ ap (λ t. replicate t 0) room)

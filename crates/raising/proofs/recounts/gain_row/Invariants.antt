@@ -4,4 +4,4 @@ use Rattle.raising.proofs.Gains.{Gaining}
 use Rattle.raising.proofs.recounts.gain_row.Given as goal
 
 abbrev pub invariant-loop-k : goal.invariant-loop-k
-invariant-loop-k l = Gaining l.scope.order l.scope.size l.initial.work l.place l.initial.k l.end l.work l.k
+invariant-loop-k l = Gaining l.scope.extent.order l.scope.extent.size l.initial.work l.place l.initial.k l.end l.work l.k

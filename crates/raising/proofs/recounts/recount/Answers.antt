@@ -15,7 +15,7 @@ pub recount_place-requires-clause-roomy : goal.recount_place-requires-clause-roo
 recount_place-requires-clause-roomy c =
     let e : c.args.first + (c.loop-place.place - c.args.first) ≡ c.loop-place.place = omega arith in
     rw e
-    at (recount-room (held_kept c.requires.held c.clear_other.ensures.recounting.kept).tabled c.requires.side (omega arith) c.loop-place.invariant c.requires.small)
+    at (recount-room (held_kept c.requires.held c.clear_other.ensures.recounting.kept).tabled c.requires.side (omega arith) c.loop-place.invariant c.args.scope.extent.small)
 
 pub loop-place-preserved : goal.loop-place-preserved
 loop-place-preserved c =
@@ -26,5 +26,5 @@ loop-place-preserved c =
 
 pub returns : goal.returns
 returns c =
-    let e : c.loop-place.place - c.args.first ≡ c.args.scope.order = omega (arith, c.loop-place.auto.place-end (omega arith)) in
+    let e : c.loop-place.place - c.args.first ≡ c.args.scope.extent.order = omega (arith, c.loop-place.auto.place-end (omega arith)) in
     recount-from c.requires.held.tabled c.requires.side (omega arith) c.clear_other.ensures (rw e at c.loop-place.invariant)

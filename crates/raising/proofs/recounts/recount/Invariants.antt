@@ -5,4 +5,4 @@ use Rattle.peeling.specs.Recounts.{Recounted}
 use Rattle.raising.proofs.recounts.recount.Given as goal
 
 abbrev pub invariant-loop-place : goal.invariant-loop-place
-invariant-loop-place l = Recounted l.scope.order l.scope.size l.first l.least (l.place - l.first) l.initial.work l.work
+invariant-loop-place l = Recounted l.scope.extent.order l.scope.extent.size l.first l.least (l.place - l.first) l.initial.work l.work

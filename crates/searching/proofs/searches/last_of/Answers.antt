@@ -3,6 +3,6 @@
 use Rattle.searching.proofs.Lines.{longest-climbed}
 use Rattle.searching.proofs.searches.last_of.Goals as goal
 
-pub returns-then-fixed-eq1 : goal.returns-then-fixed-eq1
-returns-then-fixed-eq1 c =
-    rw c.if-fixed-eq1.true (longest-climbed c.args.side c.requires.longest c.requires.start.0 c.requires.start.1 c.requires.fits)
+pub returns-then-line-eq1 : goal.returns-then-line-eq1
+returns-then-line-eq1 c =
+    rw c.if-line-eq1.true (longest-climbed c.args.line.side c.requires.longest c.requires.start.0 c.requires.start.1 c.requires.fits)

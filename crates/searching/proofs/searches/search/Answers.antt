@@ -1,10 +1,6 @@
 -- `search` begins with the better of [k,k] and the column of 1: the search goes on from the table that this first try leaves.
-use Rattle.peeling.proofs.Totals.{held_kept}
 use Rattle.searching.proofs.Turns.{equal-reaches, searched-from}
 use Rattle.searching.proofs.searches.search.Goals as goal
-
-pub search_from-requires-clause-held : goal.search_from-requires-clause-held
-search_from-requires-clause-held c = held_kept c.requires.held c.try_one-start.ensures.kept
 
 pub search_from-requires-clause-reaches : goal.search_from-requires-clause-reaches
 search_from-requires-clause-reaches c = equal-reaches c.requires.equal.0 c.try_one-start.ensures

@@ -10,14 +10,14 @@ use Rattle.searching.proofs.searches.try_one.Goals as goal
 
 pub returns-then-longest-start : goal.returns-then-longest-start
 returns-then-longest-start c =
-    tries-none c.start_of-start.ensures c.requires.in_range (kept_same _)
-    (λ g t. longest-stops (rise_of c.args.side) _ _ c.requires.longest c.if-longest-start.true t)
+    tries-none c.start-start.ensures c.requires.in_range (kept_same _)
+    (λ g t. longest-stops (rise_of c.args.line.side) _ _ c.requires.longest c.if-longest-start.true t)
 
 pub returns-then-last-start : goal.returns-then-last-start
 returns-then-last-start c =
-    tries-none c.start_of-start.ensures c.requires.in_range c.last_of-last.ensures.kept
+    tries-none c.start-start.ensures c.requires.in_range c.last_of-last.ensures.kept
     (λ g t. climbed-none _ _ _ c.last_of-last.ensures c.if-last-start.true t)
 
 pub returns : goal.returns
 returns c =
-    rw c.pair_at.ensures (tries-some c.start_of-start.ensures c.last_of-last.ensures c.requires.fixed.0 c.requires.fixed.1 c.if-last-start.false)
+    rw c.pair_at.ensures (tries-some c.start-start.ensures c.last_of-last.ensures c.args.line.in_range.0 c.args.line.in_range.1 c.if-last-start.false)
