@@ -19,7 +19,7 @@ int main(int argc, char **argv) {
         print_refusal(found.refusal, found.link);
         return 0;
     }
-    printf("x %zu y %zu equal %zu\n", found.x, found.y, found.equal);
+    print_levels(&found);
     print_pair(found.edges, s, found.sources, t, found.targets, cogsplice_check(file, length).n);
     return 0;
 }

@@ -48,10 +48,7 @@ static const uint8_t *journal_file(int argc, char **argv, size_t *length) {
         *length = sizeof journal_w;
         return journal_w;
     }
-    FILE *from = strcmp(argv[1], "-") == 0 ? stdin : fopen(argv[1], "rb");
-    if (from == NULL)
-        give_up("the journal cannot be opened");
-    return read_all(from, length);
+    return read_all(opened(argv[1]), length);
 }
 
 /* How many entries to follow: more than there are means all. */

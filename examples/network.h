@@ -1,5 +1,5 @@
-/* What the examples share: the file that they look at, a group of everyone to search in, and the lines of a refusal and of a pair. What not
- * every example needs is inline. */
+/* What the examples share: the file that they look at, a group of everyone to search in, and the lines of a refusal, of a finding and of a
+ * pair. What not every example needs is inline. */
 #include "cogsplice.h"
 
 #include <stdio.h>
@@ -20,14 +20,30 @@ static inline void give_up(const char *why) {
     exit(1);
 }
 
-/* Network W, or standard input if it is named by "-". An input that cannot be read is no empty file. */
+static inline bool is_standard_input(const char *name) {
+    return strcmp(name, "-") == 0;
+}
+
+/* Standard input, or the file that is named. */
+static inline FILE *opened(const char *name) {
+    FILE *from = is_standard_input(name) ? stdin : fopen(name, "rb");
+    if (from == NULL)
+        give_up("the file cannot be opened");
+    return from;
+}
+
+/* A network file. An input that cannot be read is no empty file. */
+static inline const uint8_t *read_network(FILE *from, size_t *length) {
+    *length = fread(input, 1, sizeof input, from);
+    if (ferror(from))
+        give_up("the network file cannot be read");
+    return input;
+}
+
+/* Network W, or standard input if it is named by "-". */
 static inline const uint8_t *network_file(int argc, char **argv, size_t *length) {
-    if (argc > 1 && strcmp(argv[1], "-") == 0) {
-        *length = fread(input, 1, sizeof input, stdin);
-        if (ferror(stdin))
-            give_up("standard input cannot be read");
-        return input;
-    }
+    if (argc > 1 && is_standard_input(argv[1]))
+        return read_network(stdin, length);
     *length = sizeof network_w;
     return network_w;
 }
@@ -44,6 +60,11 @@ static void print_refusal(uint16_t refusal, uint16_t link) {
     if (refusal == COGSPLICE_REFUSED_END || refusal == COGSPLICE_REFUSED_REPEAT || refusal == COGSPLICE_REFUSED_ORDER)
         printf(" at %u", (unsigned)link);
     printf("\n");
+}
+
+/* The first line of a report: x, y and the equal level. */
+static inline void print_levels(const struct cogsplice_finding_numbers *found) {
+    printf("x %zu y %zu equal %zu\n", found->x, found->y, found->equal);
 }
 
 static inline void print_group(const char *name, const uint8_t *group, size_t n) {

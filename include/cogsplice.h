@@ -37,8 +37,9 @@
  *
  * Every answer has `refusal`: 0 where the call was accepted, else one of COGSPLICE_REFUSED_.., the first that applies in the order of
  * the tests: 1 to 8, 15, 9, 10, 11, 12, 14. Of 7, 8 and 15 each is tested over all links before the next. Of a refused call every other
- * number is 0, but for `link`, and no table has changed. `link` is the link's number for refusals 7, 8 and 15, else 0. A table may be
- * longer than the call needs: what lies past the needed entries is neither read nor changed.
+ * number is 0, but for `link`, two findings are not called equal, and no table has changed. `link`, where an answer has it, is the link's
+ * number for refusals 7, 8 and 15, else 0. A table may be longer than the call needs: what lies past the needed entries is neither read
+ * nor changed.
  *
  * Each entry that is followed has a number too: 0 where it does what it says, else one of COGSPLICE_REFUSED_.., the first that applies
  * in the order of the tests: 18, 10, 16, 17, 19, 20. A refused entry is skipped: it changes nothing, and the next one is followed.
@@ -84,14 +85,14 @@ enum {
     COGSPLICE_REFUSED_SHORT = 1,    /* the file has 1 to 8 bytes; a journal has under 7 */
     COGSPLICE_REFUSED_MARK = 2,     /* its mark is not VCH; a journal's is not VJN */
     COGSPLICE_REFUSED_VERSION = 3,  /* its version is not 1 */
-    COGSPLICE_REFUSED_MEMBERS = 4,  /* n is above COGSPLICE_MEMBERS */
+    COGSPLICE_REFUSED_MEMBERS = 4,  /* n is above COGSPLICE_MEMBERS; equal_findings: either n is */
     COGSPLICE_REFUSED_LINKS = 5,    /* m is above COGSPLICE_LINKS */
     COGSPLICE_REFUSED_LENGTH = 6,   /* its length is not COGSPLICE_FILE(m); a journal's is COGSPLICE_JOURNAL(k) for no k */
     COGSPLICE_REFUSED_END = 7,      /* a link names a member not below n; the first such link */
     COGSPLICE_REFUSED_REPEAT = 8,   /* a link repeats an earlier one; the first such link */
-    COGSPLICE_REFUSED_TABLE = 9,    /* a lent table is shorter than the call needs */
+    COGSPLICE_REFUSED_TABLE = 9,    /* a lent table is shorter than the call needs; a finding's group needs n of that finding */
     COGSPLICE_REFUSED_MEMBER = 10,  /* row: the member is not below n; of an entry: a member of the link is not */
-    COGSPLICE_REFUSED_GROUP = 11,   /* a byte among the first n of A, of B, or of a group that count is given, is neither 0 nor 1 */
+    COGSPLICE_REFUSED_GROUP = 11,   /* a byte among the first n of A, B, or a group given to count or equal_findings is neither 0 nor 1 */
     COGSPLICE_REFUSED_ZERO = 12,    /* level, level across: asked for 0 */
     /* 13 is retired: it is never given again, nor used for something else */
     COGSPLICE_REFUSED_ROW = 14,     /* row: the member's start is above the next start, or that is above the length of the rows table */
@@ -148,6 +149,11 @@ struct cogsplice_finding_numbers {
 struct cogsplice_layers_numbers {
     uint16_t refusal, link;
     size_t layers; /* K, the number of layers */
+};
+
+struct cogsplice_equal_numbers {
+    uint16_t refusal;
+    bool equal;
 };
 
 /* n and m of a file. Refusals 1 to 8, 15, as in every call on a network file but cogsplice_order. */
@@ -283,8 +289,19 @@ struct cogsplice_write_numbers cogsplice_journal(
     uint8_t *numbers, size_t numbers_length,
     uint16_t *work, size_t work_length);
 
-/* Whether two findings are equal: x1, y1 of one and x2, y2 of the other. */
-bool cogsplice_equal_findings(size_t x1, size_t y1, size_t x2, size_t y2);
+/* Whether two findings are equal. Each is given by its x and y, which may be any numbers, by n of the network that it was found in, and by
+ * its groups S and T. Equal are those whose x, y and n agree and whose groups have the same members, S as S and T as T; the equal level
+ * and E are not compared. The call is refused, in this order, by 4 where either n is above COGSPLICE_MEMBERS, by 9 where a group is
+ * shorter than n, and by 11 where one of its first n bytes is neither 0 nor 1: 9 and 11 over all four groups, each by n of its own
+ * finding. Only then do two n that differ mean unequal. Bytes past n are not read. Nothing is written, and the tables may overlap. Where
+ * the call is refused `equal` is false. Refusals 4, 9, 11. */
+struct cogsplice_equal_numbers cogsplice_equal_findings(
+    size_t x1, size_t y1, size_t n1,
+    const uint8_t *s1, size_t s1_length,
+    const uint8_t *t1, size_t t1_length,
+    size_t x2, size_t y2, size_t n2,
+    const uint8_t *s2, size_t s2_length,
+    const uint8_t *t2, size_t t2_length);
 
 #ifdef __cplusplus
 }

@@ -136,6 +136,20 @@ static void journal(void) {
     EXPECT(9, cogsplice_journal(NO_ENTRY, SIZE_MAX, ALL(journal_out), NONE, NONE));
 }
 
+/* A finding's groups are needed for its own n: of nobody they may have no entries, whatever the other finding has. */
+static void equal(void) {
+    EXPECT(9, cogsplice_equal_findings(2, 3, 6, NONE, ALL(t), 2, 3, 6, ALL(s), ALL(t)));
+    EXPECT(9, cogsplice_equal_findings(2, 3, 6, ALL(s), NONE, 2, 3, 6, ALL(s), ALL(t)));
+    EXPECT(9, cogsplice_equal_findings(2, 3, 6, ALL(s), ALL(t), 2, 3, 6, NONE, ALL(t)));
+    EXPECT(9, cogsplice_equal_findings(2, 3, 6, ALL(s), ALL(t), 2, 3, 6, ALL(s), NONE));
+    EXPECT(9, cogsplice_equal_findings(2, 3, 6, NONE, NONE, 2, 3, 6, NONE, NONE));
+    EXPECT(0, cogsplice_equal_findings(2, 3, 0, NONE, NONE, 2, 3, 6, ALL(s), ALL(t)));
+    EXPECT(0, cogsplice_equal_findings(2, 3, 6, ALL(s), ALL(t), 2, 3, 0, NONE, NONE));
+    EXPECT(0, cogsplice_equal_findings(2, 3, 0, NONE, NONE, 2, 3, 0, NONE, NONE));
+    expect("nobody twice: equal", true, cogsplice_equal_findings(2, 3, 0, NONE, NONE, 2, 3, 0, NONE, NONE).equal);
+    expect("nobody and others: equal", false, cogsplice_equal_findings(2, 3, 0, NONE, NONE, 2, 3, 6, ALL(s), ALL(t)).equal);
+}
+
 int main(void) {
     no_table();
     enough(NOBODY);
@@ -146,5 +160,6 @@ int main(void) {
     rows_of(COGSPLICE_VOUCHER);
     rows_of(COGSPLICE_VOUCHED);
     journal();
+    equal();
     return faults != 0;
 }

@@ -1,16 +1,20 @@
 //! Measures the proved library against the same calls in plain Rust, prints the tables and writes docs/BENCHMARKS.md.
+mod equal;
 mod follow;
 mod inputs;
 mod journals;
 mod measure;
+mod pairs;
 mod plain;
 mod report;
 mod sides;
 
+use equal::compare;
 use follow::follow;
 use inputs::{growing, shapes, HALVED};
 use journals::journals;
 use measure::{measure, Halved};
+use pairs::pairs;
 use sides::{Call, Timed};
 use std::path::Path;
 
@@ -31,7 +35,8 @@ fn main() -> std::io::Result<()> {
         .collect();
     let growth = all(growing());
     let journals: Vec<_> = journals().into_iter().map(follow).collect();
-    let text = report::report(&shapes, &halves, &growth, &journals);
+    let pairs: Vec<_> = pairs().into_iter().map(compare).collect();
+    let text = report::report(&shapes, &halves, &growth, &journals, &pairs);
     print!("{text}");
     let page = Path::new(env!("CARGO_MANIFEST_DIR")).join("../docs/BENCHMARKS.md");
     std::fs::write(page, text)

@@ -2,12 +2,14 @@
 //! kept from call to call, so that no call allocates once the largest network was seen.
 mod chunks;
 mod drops;
+mod equal;
 mod journal;
 mod network;
 mod peel;
 
 use chunks::chunks_mut;
 use drops::Drops;
+pub use equal::{compared_first, equal_findings, Lent};
 pub use journal::{Links, States};
 use network::{
     counted, fill_out_starts, fill_starts, next_place, source, target, Link, Network, Sorter,

@@ -1,4 +1,5 @@
 //! The text of the measurements.
+use crate::equal::Compared;
 use crate::follow::Followed;
 use crate::inputs::Links;
 use crate::measure::{Halved, Measured, Times, ROUND, ROUNDS};
@@ -40,20 +41,29 @@ const GOALS: [Goal; 12] = [
 /// The same for the journals.
 const JOURNAL_MOST: f64 = 1.2;
 
+/// The same for the comparison of findings.
+const EQUAL_MOST: f64 = 1.2;
+
 /// Whatever is measured, for the screen and for docs/BENCHMARKS.md.
 pub fn report(
     shapes: &[Measured],
     halves: &[Halved],
     growth: &[Measured],
     journals: &[Followed],
+    pairs: &[Compared],
 ) -> String {
-    let goals = goal_table(shapes, halves, growth) + &journal_goal(journals);
+    let goals = [
+        goal_table(shapes, halves, growth),
+        journal_goal(journals),
+        equal_goal(pairs),
+    ];
     let parts = [
-        ("Goals", goals),
+        ("Goals", goals.concat()),
         ("Times", time_table(shapes)),
         ("Half of the members", half_table(halves)),
         ("Links in any order", order_table(shapes)),
         ("Journals", journal_table(journals)),
+        ("Two findings compared", equal_table(pairs)),
         ("Growth", growth_tables(growth)),
     ];
     let how = how_measured();
@@ -77,9 +87,11 @@ fn how_measured() -> String {
 
 Before the calls on a network are timed, both sides must give the same answers, the same tables, and the same refusals of damaged files
 and of a faulty A or B; before a journal is, the same after none, some and all of its entries, and the same refusals of damaged ones and of
-short tables.
+short tables; before two findings are compared, the same answer, and the same refusals where n is too large, a table too short or a group
+faulty in either or both.
 Then each call is timed, the two sides turn by turn, in {ROUNDS} rounds of at least {round} ms for each side. The least time of one
-call counts, in microseconds. The ratio is the library's time divided by that of plain Rust.
+call counts, in microseconds, or in nanoseconds where two findings are compared. The ratio is the library's time divided by that of plain
+Rust.
 
 Both sides check the file in every call, run in one thread, and write to tables that are lent to them. Nothing clears these tables
 between calls. What plain Rust sorts and peels in is kept from call to call, so that no allocation is timed. It sorts links only where
@@ -120,6 +132,17 @@ fn journal_goal(journals: &[Followed]) -> String {
         .map(|one| (one.ratio(), one.journal.name.to_string()))
         .collect();
     goal_line("journal", JOURNAL_MOST, ratios) + "\n"
+}
+
+fn equal_goal(pairs: &[Compared]) -> String {
+    let with_goal = pairs.iter().filter(|one| one.pair.has_goal);
+    let ratios = with_goal
+        .map(|one| {
+            let (name, n) = (one.pair.name, one.pair.n());
+            (one.ratio(), format!("{n} members, {name} differs"))
+        })
+        .collect();
+    goal_line("equal findings", EQUAL_MOST, ratios) + "\n"
 }
 
 /// How a call keeps to the ratio that is its goal, by all ratios measured and what they were measured on.
@@ -231,6 +254,30 @@ BTreeSet, whose copies are allocated.
                 "| {name} | {entries} | {refused} | {library:.1} | {plain:.1} | {ratio:.2} | {tree:.1} |"
             ),
         );
+    }
+    text
+}
+
+/// The pairs of findings, with plain Rust that compares before it tests beside the two sides.
+fn equal_table(pairs: &[Compared]) -> String {
+    let mut text = "Each finding has tables of its own, with a member in a group by a chance of one half. A faulty byte refuses the call whatever differs, so
+that in every row all bytes of the four groups are tested before there is an answer. Plain Rust gathers the bits of a group's bytes in
+eight words, 64 bytes at a time, and then looks at them once. After all tests it compares x, y and the groups, each group in one piece,
+and ends at the first that differs. Where nothing differs, or only the last member of T, every byte is both tested and compared: the rows
+of 2,048 members have a goal. Where x differs, or the first member of S, next to nothing is compared, and the row shows what the tests
+alone take. Whether a call saves the comparison there, or compares in the pass in which it tests, is its own choice: these rows have no
+goal. Nor have those of fewer members, where handing over fourteen arguments counts for more. Beside the two sides stands plain Rust that
+compares the groups before it tests them, and where they agree tests those of one finding alone.
+
+| n | Differs | Library (ns) | Plain Rust (ns) | Ratio | Compared first (ns) |
+|---|---|---|---|---|---|
+".to_string();
+    for one in pairs {
+        let (name, n, ratio) = (one.pair.name, one.pair.n(), one.ratio());
+        let [library, plain, first] = [one.library, one.plain, one.first].map(|time| time * 1e3);
+        let line =
+            format!("| {n} | {name} | {library:.1} | {plain:.1} | {ratio:.2} | {first:.1} |");
+        add(&mut text, &line);
     }
     text
 }

@@ -3,7 +3,7 @@
 use Prim.Native.Nat.{ℕ, zero, suc, ◌+◌, ◌*◌, ◌<◌, ◌≤◌}
 use mathlib.Core.Bool.{Bool, true, false, not, ◌&&◌, ◌||◌, false≢true}
 use mathlib.Core.List.{List, [], ◌∷◌}
-use mathlib.Core.Logic.{◌⊎◌, inl, inr, ⊎_elim}
+use mathlib.Core.Logic.{◌⊎◌, inl, inr, ⊎_elim, ◌↔◌}
 use mathlib.Core.Path.{◌≡◌, refl, sym, ap, ◌∙◌}
 use native.Mathlib.Nat.{le_refl, le_trans, eq-or-lt_of_le}
 use native.Mathlib.Omega.{arith}
@@ -16,7 +16,7 @@ use Rattle.graph.specs.Core.{Inside, Dense, CoreInside, NonemptyInside, Greatest
 use Rattle.graph.specs.Quiet.{OutcomeInside, ring, quiet}
 use Rattle.graph.specs.Layers.{still_in, joins, LayerInside, LayeringInside}
 use Rattle.graph.specs.Harmonic.{Harmonic}
-use Rattle.graph.proofs.Tests.{and_left, and_right}
+use Rattle.graph.proofs.Tests.{and_left, and_right, and_both}
 use Rattle.graph.proofs.Sums.{below_suc}
 use Rattle.graph.proofs.Degrees.{card_mono}
 use Rattle.graph.proofs.Exists.{nonempty-in, nonempty-nested}
@@ -27,12 +27,14 @@ use Rattle.graph.proofs.Layers.{layer-make, layer-product}
 use Rattle.network.specs.declared.Refusal.{Refusal}
 use Rattle.std.specs.Prelude.{Option, None, Some, is_none}
 use Rattle.network.specs.File.{graph_of, number_told, link_told, old_refusal, file_refusal}
+use Rattle.network.specs.Groups.{group_of}
 use Rattle.network.specs.Bytes.{written}
 use Rattle.journal.specs.Entries.{members as members_of, header_refusal}
 use Rattle.journal.specs.Journal.{live, due, after}
 use Rattle.journal.specs.Calls.{count_of}
+use Rattle.finding.specs.Equality.{Found, Agree, Equal, equal_refusal}
 use Rattle.cases.specs.Journals.{numbers_after, pairs_after, SaysJournal, SaysTotals}
-use Rattle.cases.specs.Cases.{numbers_of, members, Ring, Counts, Claim, core, level, across, finding, layers, harmonic, has, gives, orders, follows, totals, heads, Rings, Says, Case, Hold}
+use Rattle.cases.specs.Cases.{numbers_of, members, Ring, Counts, Claim, core, level, across, finding, layers, harmonic, has, gives, orders, follows, totals, heads, against, compares, Rings, SaysRing, found, SaysAgainst, Says, Case, Hold}
 use Rattle.cases.proofs.Sweep.{with_out, with_in, sources_left, targets_left, covers-sweep}
 use Rattle.cases.proofs.Drops.{drops, found_of, places-found}
 
@@ -65,6 +67,11 @@ same_true {a = true} {b = false} h = sym h
 same_true {a = false} {b = true} h = h
 same_true {a = false} {b = false} h = refl
 
+-- and where they are equal
+same-holds : {a b : Bool} → a ≡ b → same a b ≡ true
+same-holds {a = true} h = rw (← h)
+same-holds {a = false} h = rw (← h)
+
 -- every number below n passes the test
 abbrev pub every : ℕ → (ℕ → Bool) → Bool
 every zero p = true
@@ -74,6 +81,11 @@ every (suc n) p = every n p && p n
 every-at : (n : ℕ) (p : ℕ → Bool) → every n p ≡ true → (i : ℕ) → i < n → p i ≡ true
 every-at zero p h i l = absurd (omega arith)
 every-at (suc n) p h i l = let (a, b) = both (every n p) (p n) h in below_suc l (λ e. rw e b) (λ k. every-at n p a i k)
+
+-- and where each does all do
+every-all : (n : ℕ) (p : ℕ → Bool) → ((i : ℕ) → i < n → p i ≡ true) → every n p ≡ true
+every-all zero p h = refl
+every-all (suc n) p h = and_both (every-all n p (λ i l. h i (omega arith))) (h n (omega arith))
 
 -- every vertex of S is in R
 abbrev pub is_inside : Graph → Group → Group → Bool
@@ -378,6 +390,64 @@ totals-sound j asked l d h =
     let (q, t) = both (eqb (live (members_of j) (after j (count_of j asked)).present) l) _ r in
     record { header = none-sound (header_refusal j) p; live_is = eqb-true _ l q; due_is = eqb-true _ d t }
 
+-- the finding inside A and B is the ring
+abbrev pub has_ring : List ℕ → Group → Group → Ring → Bool
+has_ring f A B r = is_accepted f && (is_finding (graph_of f) A B r.x r.y (members r.S) (members r.T) && is_counts (graph_of f) r.S r.T r.E)
+
+-- by the definitions
+has_ring-sound : (f : List ℕ) (A B : Group) (r : Ring) → has_ring f A B r ≡ true → SaysRing f A B r
+has_ring-sound f A B r h =
+    let (a, t) = both (is_accepted f) _ h in
+    let (o, k) = accepted-sound f a in
+    let (p, q) = both (is_finding (graph_of f) A B r.x r.y (members r.S) (members r.T)) _ t in
+    record { accepted = o; finding = finding-sound k A B r.x r.y (members r.S) (members r.T) p; counts = counts-sound (graph_of f) r.S r.T r.E q }
+
+-- two groups agree
+abbrev pub do_agree : ℕ → List ℕ → List ℕ → Bool
+do_agree n a b = every n (λ u. same (group_of a u) (group_of b u))
+
+-- exactly by the definition
+agree_exact : (n : ℕ) (a b : List ℕ) → (do_agree n a b ≡ true) ↔ Agree n a b
+agree_exact n a b = (λ h u l. same_true (every-at n _ h u l), λ h. every-all n _ (λ u l. same-holds (h u l)))
+
+-- two findings are equal
+abbrev pub are_same : Found → Found → Bool
+are_same p q = (eqb p.x q.x && (eqb p.y q.y && eqb p.n q.n)) && (do_agree p.n p.s q.s && do_agree p.n p.t q.t)
+
+-- exactly by the definition
+same_exact : (p q : Found) → (are_same p q ≡ true) ↔ Equal p q
+same_exact p q = (to, from)
+  where
+    to : are_same p q ≡ true → Equal p q
+    to h =
+        let (a, r) = both (eqb p.x q.x && (eqb p.y q.y && eqb p.n q.n)) _ h in
+        let (x, b) = both (eqb p.x q.x) _ a in
+        let (y, n) = both (eqb p.y q.y) _ b in
+        let (s, t) = both (do_agree p.n p.s q.s) _ r in
+        record {
+          x = eqb-true _ _ x;
+          y = eqb-true _ _ y;
+          people = record { n = eqb-true _ _ n; sources = (agree_exact p.n p.s q.s).0 s; targets = (agree_exact p.n p.t q.t).0 t };
+        }
+
+    from : Equal p q → are_same p q ≡ true
+    from e =
+        and_both (and_both (eq-eqb _ _ e.x) (and_both (eq-eqb _ _ e.y) (eq-eqb _ _ e.people.n)))
+        (and_both ((agree_exact p.n p.s q.s).1 e.people.sources) ((agree_exact p.n p.t q.t).1 e.people.targets))
+
+-- the findings of two files are the rings, and equal or not as it is said
+abbrev pub is_against : List ℕ → List ℕ → Group → Group → Ring → Ring → Bool → Bool
+is_against f g A B p q equal = has_ring f A B p && (has_ring g A B q && same equal (are_same (found f p) (found g q)))
+
+-- by the definitions
+against-sound : (f g : List ℕ) (A B : Group) (p q : Ring) (equal : Bool) → is_against f g A B p q equal ≡ true → SaysAgainst f g A B p q equal
+against-sound f g A B p q equal h =
+    let (a, r) = both (has_ring f A B p) _ h in
+    let (b, t) = both (has_ring g A B q) _ r in
+    let e = same_true t in
+    let (to, from) = same_exact (found f p) (found g q) in
+    record { mine = has_ring-sound f A B p a; theirs = has_ring-sound g A B q b; told = (λ i. to (sym e ∙ i), λ i. e ∙ from i) }
+
 -- the test of a claim on a file inside A and B
 abbrev pub holds : List ℕ → Group → Group → Claim → Bool
 holds f A B (core x y S T E) = is_accepted f && (is_core (graph_of f) A B x y (members S) (members T) && is_counts (graph_of f) S T E)
@@ -395,6 +465,8 @@ holds f A B (orders w) = is_none (old_refusal f) && (are_equal (written (graph_o
 holds f A B (follows asked numbers present) = is_journal f asked numbers present
 holds f A B (totals asked l d) = is_totals f asked l d
 holds f A B (heads r) = is_refusal (header_refusal f) r
+holds f A B (against g p q equal) = is_against f g A B p q equal
+holds f A B (compares n₁ s₁ t₁ n₂ s₂ t₂ r) = is_refusal (equal_refusal n₁ s₁ t₁ n₂ s₂ t₂) r
 
 -- a claim that passes its test holds
 holds-sound : (f : List ℕ) (A B : Group) (c : Claim) → holds f A B c ≡ true → Says f A B c
@@ -444,6 +516,8 @@ holds-sound f A B (orders w) h =
 holds-sound f A B (follows asked numbers present) h = journal-sound f asked numbers present h
 holds-sound f A B (totals asked l d) h = totals-sound f asked l d h
 holds-sound f A B (heads r) h = refusal-sound (header_refusal f) r h
+holds-sound f A B (against g p q equal) h = against-sound f g A B p q equal h
+holds-sound f A B (compares n₁ s₁ t₁ n₂ s₂ t₂ r) h = refusal-sound (equal_refusal n₁ s₁ t₁ n₂ s₂ t₂) r h
 
 -- the test of every case of a table
 abbrev pub all_hold : List Case → Bool

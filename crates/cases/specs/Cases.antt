@@ -1,6 +1,6 @@
 -- 01's "Networks to try" and 02's examples as one table: each network as the bytes of its file, two groups A and B, and what is said of it
--- inside them, by the definitions; and journals, as their bytes.
-use Rattle.std.specs.Prelude.{ℕ, suc, false, ◌||◌, List, [], ◌∷◌, ◌++◌, ◌≡◌, Option, None, eqb, length, get_or, take}
+-- inside them, by the definitions; journals, as their bytes; and findings compared.
+use Rattle.std.specs.Prelude.{ℕ, suc, Bool, true, false, ◌||◌, List, [], ◌∷◌, ◌++◌, ◌↔◌, ◌≡◌, Option, None, eqb, length, get_or, take}
 use Rattle.graph.specs.Graph.{Graph, Group, everyone, card, edges}
 use Rattle.graph.specs.Core.{CoreInside, LevelInside, LevelAcrossInside, EqualLevelInside, FindingInside}
 use Rattle.graph.specs.Quiet.{OutcomeInside}
@@ -8,7 +8,9 @@ use Rattle.graph.specs.Layers.{still_in, LayeringInside}
 use Rattle.graph.specs.Harmonic.{Harmonic}
 use Rattle.network.specs.declared.Refusal.{Refusal}
 use Rattle.network.specs.File.{mark, graph_of, number_told, link_told, old_refusal, file_refusal}
+use Rattle.network.specs.Groups.{bytes_of}
 use Rattle.network.specs.Bytes.{u16, header, edge_bytes, written}
+use Rattle.finding.specs.Equality.{Found, Equal, equal_refusal}
 use Rattle.journal.specs.Entries.{journal_mark, header_refusal}
 use Rattle.cases.specs.Journals.{journal_header, entry, SaysJournal, SaysTotals}
 
@@ -66,6 +68,10 @@ pub data Claim : Type 0 where
   totals : (asked live due : ℕ) → Claim
   -- the journal's header gives the refusal of these two numbers, or none
   heads : ℕ × ℕ → Claim
+  -- the finding is the first ring, that of another file is the second, and the two findings are equal, or are not
+  against : (other : List ℕ) (mine theirs : Ring) (equal : Bool) → Claim
+  -- the comparison of two findings, by the n of each and the tables of its groups, gives the refusal of these two numbers, or none
+  compares : (n₁ : ℕ) (s₁ t₁ : List ℕ) (n₂ : ℕ) (s₂ t₂ : List ℕ) → ℕ × ℕ → Claim
 
 -- the counts between the listed groups: E links, and no member listed twice or beyond the network
 pub record Counts (g : Graph) (S T : List ℕ) (E : ℕ) : Type 0 where
@@ -105,7 +111,24 @@ pub record SaysHarmonic (f : List ℕ) (S T : List ℕ) (E : ℕ) : Type 0 where
   pub found : Harmonic (graph_of f) (members S) (members T)
   pub counts : Counts (graph_of f) S T E
 
--- a claim on a file inside A and B, by the definitions; A and B do not count for the harmonic finder, nor for the bytes of a file or a journal
+-- the file is accepted, and its finding inside A and B is the ring
+pub record SaysRing (f : List ℕ) (A B : Group) (r : Ring) : Type 0 where
+  pub accepted : file_refusal f ≡ None
+  pub finding : FindingInside (graph_of f) A B r.x r.y (members r.S) (members r.T)
+  pub counts : Counts (graph_of f) r.S r.T r.E
+
+-- a ring of a file as the comparison takes it, each of its groups as the bytes of a table
+abbrev pub found : List ℕ → Ring → Found
+found f r = let n = (graph_of f).order in record { x = r.x; y = r.y; n = n; s = bytes_of n (members r.S); t = bytes_of n (members r.T) }
+
+-- the findings of two files inside A and B are the two rings, and they are equal exactly where it is said
+pub record SaysAgainst (f g : List ℕ) (A B : Group) (p q : Ring) (equal : Bool) : Type 0 where
+  pub mine : SaysRing f A B p
+  pub theirs : SaysRing g A B q
+  pub told : (equal ≡ true) ↔ Equal (found f p) (found g q)
+
+-- a claim on a file inside A and B, by the definitions; A and B do not count for the harmonic finder, nor for the bytes of a file or a journal, and
+-- for what is given of two findings the file does not either
 abbrev pub Says : List ℕ → Group → Group → Claim → Type 0
 Says f A B (core x y S T E) = SaysCore f A B x y S T E
 Says f A B (level x y) = (file_refusal f ≡ None) × LevelInside (graph_of f) A B x y
@@ -119,6 +142,8 @@ Says f A B (orders w) = (old_refusal f ≡ None) × (written (graph_of f) ≡ w)
 Says f A B (follows asked numbers present) = SaysJournal f asked numbers present
 Says f A B (totals asked live due) = SaysTotals f asked live due
 Says f A B (heads r) = numbers_of (header_refusal f) ≡ r
+Says f A B (against g p q equal) = SaysAgainst f g A B p q equal
+Says f A B (compares n₁ s₁ t₁ n₂ s₂ t₂ r) = numbers_of (equal_refusal n₁ s₁ t₁ n₂ s₂ t₂) ≡ r
 
 -- a file or a journal, the groups A and B, and one claim on it inside them
 pub record Case : Type 0 where
@@ -134,6 +159,24 @@ W = header 6 8 ++ edge_bytes 0 3 ++ edge_bytes 0 4 ++ edge_bytes 1 3 ++ edge_byt
 -- W's links in another order
 abbrev pub mixed_w : List ℕ
 mixed_w = header 6 8 ++ edge_bytes 5 5 ++ edge_bytes 2 4 ++ edge_bytes 0 4 ++ edge_bytes 1 3 ++ edge_bytes 4 5 ++ edge_bytes 2 3 ++ edge_bytes 0 3 ++ edge_bytes 1 4
+
+-- 02, wish 10: W of other members: each stands three places further on, and the last three where the first did
+abbrev pub other_members : List ℕ
+other_members = header 6 8 ++ edge_bytes 1 2 ++ edge_bytes 2 2 ++ edge_bytes 3 0 ++ edge_bytes 3 1 ++ edge_bytes 4 0 ++ edge_bytes 4 1 ++ edge_bytes 5 0 ++ edge_bytes 5 1
+
+-- W with a link more beside its ring, and W among a member more
+abbrev pub w_and_a_link : List ℕ
+w_and_a_link = header 6 9 ++ edge_bytes 0 3 ++ edge_bytes 0 4 ++ edge_bytes 0 5 ++ edge_bytes 1 3 ++ edge_bytes 1 4 ++ edge_bytes 2 3 ++ edge_bytes 2 4 ++ edge_bytes 4 5 ++ edge_bytes 5 5
+
+abbrev pub w_and_a_member : List ℕ
+w_and_a_member = header 7 8 ++ edge_bytes 0 3 ++ edge_bytes 0 4 ++ edge_bytes 1 3 ++ edge_bytes 1 4 ++ edge_bytes 2 3 ++ edge_bytes 2 4 ++ edge_bytes 4 5 ++ edge_bytes 5 5
+
+-- the ring of W, and that of W of other members
+abbrev pub w_ring : Ring
+w_ring = record { x = 2; y = 3; S = 0 ∷ 1 ∷ 2 ∷ []; T = 3 ∷ 4 ∷ []; E = 6 }
+
+abbrev pub other_ring : Ring
+other_ring = record { x = 2; y = 3; S = 3 ∷ 4 ∷ 5 ∷ []; T = 0 ∷ 1 ∷ []; E = 6 }
 
 -- 02's example: a star of four vouchers round member 4, and a ring of two vouchers and two vouched members
 abbrev pub star_and_ring : List ℕ
@@ -208,7 +251,7 @@ abbrev pub says_in : List ℕ → List ℕ → List ℕ → Claim → Case
 says_in f A B c = record { file = f; sources = members A; targets = members B; claim = c }
 
 -- P1 to P9, W's report and W's layers, 02's example, some of these inside A and B, the harmonic finder, zero bytes, the limits of a file, links that
--- do not ascend, then journals
+-- do not ascend, journals, then findings compared
 unfoldable pub cases : List Case
 cases =
     -- P1
@@ -361,6 +404,24 @@ cases =
     ∷ says (journal_header 2049) (heads (plain 4))
     -- an entry that is cut short
     ∷ says (journal_header 2 ++ u16 0) (heads (plain 6))
+    -- two months with [2,3] (02, wish 10): a finding is equal to itself, and to the same one beside another link,
+    ∷ says W (against W w_ring w_ring true)
+    ∷ says W (against w_and_a_link w_ring w_ring true)
+    -- but not to one with other members, nor to one over another n
+    ∷ says W (against other_members w_ring other_ring false)
+    ∷ says W (against w_and_a_member w_ring w_ring false)
+    -- n of either: 2,048 is accepted, and its tables are short; 2,049 is not, whatever the tables
+    ∷ says [] (compares 2048 [] [] 0 [] [] (plain 9))
+    ∷ says [] (compares 2049 [] [] 0 [] [] (plain 4))
+    ∷ says [] (compares 1 [] (2 ∷ []) 2049 [] [] (plain 4))
+    -- a table that is short for its own n, before a byte that is neither 0 nor 1, on either side
+    ∷ says [] (compares 1 (2 ∷ []) (1 ∷ []) 2 (1 ∷ 1 ∷ []) (1 ∷ []) (plain 9))
+    ∷ says [] (compares 2 (1 ∷ []) (1 ∷ 1 ∷ []) 1 (1 ∷ []) (2 ∷ []) (plain 9))
+    -- such a byte, also where the two n differ
+    ∷ says [] (compares 1 (1 ∷ []) (2 ∷ []) 2 (1 ∷ 0 ∷ []) (0 ∷ 1 ∷ []) (plain 11))
+    ∷ says [] (compares 1 (1 ∷ []) (1 ∷ []) 2 (1 ∷ 2 ∷ []) (0 ∷ 1 ∷ []) (plain 11))
+    -- past its own n a byte does not count, and a table is not short for the other n
+    ∷ says [] (compares 1 (1 ∷ 2 ∷ []) (1 ∷ []) 2 (1 ∷ 0 ∷ 2 ∷ []) (0 ∷ 1 ∷ []) none)
     ∷ []
 
 -- every case's claim holds

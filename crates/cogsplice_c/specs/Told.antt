@@ -1,5 +1,5 @@
 -- What the calls for C promise: each is a public call of the library, and its struct holds 01's numbers of the answer.
-use Rattle.std.specs.Prelude.{ℕ, ◌+◌, ◌-◌, Bool, cond, List, ◌≢◌, ◌≡◌, ⊤, None, Result, Ok, Err, unwrap_or, get_or}
+use Rattle.std.specs.Prelude.{ℕ, ◌+◌, ◌-◌, Bool, false, cond, List, ◌≢◌, ◌≡◌, ⊤, None, Result, Ok, Err, unwrap_or, get_or}
 use Rattle.network.specs.declared.Side.{Side}
 use Rattle.network.specs.declared.Side.TheVariants.{Source, Target}
 use Rattle.network.specs.declared.Refusal.{Refusal}
@@ -16,6 +16,7 @@ use Rattle.cogsplice_c.specs.declared.RowNumbers.{RowNumbers}
 use Rattle.cogsplice_c.specs.declared.LevelNumbers.{LevelNumbers}
 use Rattle.cogsplice_c.specs.declared.FindingNumbers.{FindingNumbers}
 use Rattle.cogsplice_c.specs.declared.LayersNumbers.{LayersNumbers}
+use Rattle.cogsplice_c.specs.declared.EqualNumbers.{EqualNumbers}
 
 -- the struct holds the numbers of an answer that keeps the promise of the call
 pub record Told {Answer Struct : Type 0} (call : Answer → Type 0) (numbers : Answer → Struct) (given : Struct) : Type 0 where
@@ -56,10 +57,15 @@ finding_numbers (Ok r) =
 finding_numbers (Err r) =
     record { refusal = number_of r; link = unwrap_or (link_of r) 0; edges = 0; x = 0; y = 0; equal = 0; sources = 0; targets = 0 }
 
--- and of the layers
+-- of the layers,
 abbrev pub layers_numbers : Result ℕ Refusal → LayersNumbers
 layers_numbers (Ok k) = record { refusal = 0; link = 0; layers = k }
 layers_numbers (Err r) = record { refusal = number_of r; link = unwrap_or (link_of r) 0; layers = 0 }
+
+-- and of the comparison of two findings, whose refusals name no link
+abbrev pub equal_numbers : Result Bool Refusal → EqualNumbers
+equal_numbers (Ok b) = record { refusal = 0; equal = b }
+equal_numbers (Err r) = record { refusal = number_of r; equal = false }
 
 -- the side that a C program names
 abbrev pub side_of : Bool → Side

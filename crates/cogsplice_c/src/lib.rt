@@ -5,17 +5,18 @@
 mod numbers;
 mod rows;
 
-ghost use Rattle.std.specs.Prelude.{◌&&◌, ◌≡◌, eqb};
+ghost use Rattle.std.specs.Prelude.{◌≡◌};
 ghost use Rattle.network.specs.File.{number_told};
 ghost use Rattle.network.specs.Refusals.{row_refusal};
 ghost use Rattle.calls.specs.Calls.{CheckCall, CountCall, WriteCall, OrderCall};
 ghost use Rattle.adjacency.specs.Calls.{by_side, IndexCall};
 ghost use Rattle.cores.specs.Calls.{CoreCall, LevelCall, LevelAcrossCall, EqualLevelCall};
 ghost use Rattle.finding.specs.Findings.{FindingCall};
+ghost use Rattle.finding.specs.Equality.{EqualCall};
 ghost use Rattle.layering.specs.Calls.{LayersCall};
 ghost use Rattle.harmonic.specs.Calls.{HarmonicCall};
 ghost use Rattle.journal.specs.Calls.{JournalCall};
-ghost use Rattle.cogsplice_c.specs.Told.{Told, PartOf, side_of, check_numbers, totals_numbers, write_numbers, index_numbers, level_numbers, finding_numbers, layers_numbers};
+ghost use Rattle.cogsplice_c.specs.Told.{Told, PartOf, side_of, check_numbers, totals_numbers, write_numbers, index_numbers, level_numbers, finding_numbers, layers_numbers, equal_numbers};
 
 use crate::numbers::number_told;
 use crate::rows::part_of;
@@ -98,6 +99,14 @@ pub struct LayersNumbers {
     pub refusal: u16,
     pub link: u16,
     pub layers: usize,
+}
+
+// Whether two findings are equal.
+#[repr(C)]
+#[derive(Clone, Copy, Debug, PartialEq, Eq)]
+pub struct EqualNumbers {
+    pub refusal: u16,
+    pub equal: bool,
 }
 
 #[unsafe(no_mangle)]
@@ -308,8 +317,24 @@ pub extern "C" fn cogsplice_journal(
 }
 
 #[unsafe(no_mangle)]
-pub extern "C" fn cogsplice_equal_findings(x: usize, y: usize, a: usize, b: usize) -> bool
-    ensures { result ≡ (eqb x a && eqb y b) }
+pub extern "C" fn cogsplice_equal_findings(
+    x1: usize,
+    y1: usize,
+    n1: usize,
+    s1: &[u8],
+    t1: &[u8],
+    x2: usize,
+    y2: usize,
+    n2: usize,
+    s2: &[u8],
+    t2: &[u8],
+) -> EqualNumbers
+    ensures { Told
+        (EqualCall
+        (record { x = x1; y = y1; n = n1; s = s1.now; t = t1.now })
+        (record { x = x2; y = y2; n = n2; s = s2.now; t = t2.now }))
+        equal_numbers
+        result }
 {
-    cogsplice::equal_findings(x, y, a, b)
+    cogsplice::equal_findings(x1, y1, n1, s1, t1, x2, y2, n2, s2, t2).into()
 }

@@ -1,12 +1,12 @@
 // 01's numbers of each answer.
 ghost use Rattle.std.specs.Prelude.{◌≡◌};
 ghost use Rattle.network.specs.File.{number_told};
-ghost use Rattle.cogsplice_c.specs.Told.{check_numbers, totals_numbers, write_numbers, index_numbers, level_numbers, finding_numbers, layers_numbers};
+ghost use Rattle.cogsplice_c.specs.Told.{check_numbers, totals_numbers, write_numbers, index_numbers, level_numbers, finding_numbers, layers_numbers, equal_numbers};
 ghost use Rattle.cogsplice_c.specs.Parts.{parts};
 
 use crate::{
-    CheckNumbers, FindingNumbers, IndexNumbers, LayersNumbers, LevelNumbers, TotalsNumbers,
-    WriteNumbers,
+    CheckNumbers, EqualNumbers, FindingNumbers, IndexNumbers, LayersNumbers, LevelNumbers,
+    TotalsNumbers, WriteNumbers,
 };
 use cogsplice::{Extent, Refusal, Ring, Totals};
 
@@ -131,5 +131,14 @@ impl From<Result<usize, Refusal>> for LayersNumbers {
             link,
             layers,
         }
+    }
+}
+
+impl From<Result<bool, Refusal>> for EqualNumbers {
+    ghost from_gives = { λ a n. n ≡ equal_numbers a };
+
+    fn from(answer: Result<bool, Refusal>) -> EqualNumbers {
+        let (refusal, _, equal) = parts(answer, false);
+        EqualNumbers { refusal, equal }
     }
 }

@@ -1,1 +1,4 @@
+pub mod Again
+pub mod Comparing
+pub mod Equality
 pub mod FindingCalls

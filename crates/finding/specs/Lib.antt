@@ -1,1 +1,3 @@
 pub mod Findings
+pub mod Equality
+pub mod Compared

@@ -1,8 +1,8 @@
 //! The calls of the proved library as it has them: over tables that the caller lends, with an answer of plain numbers.
 //!
 //! Every call is safe on slices of any length and content: none has a precondition. `refusal` is 0 where a call was accepted; of a
-//! refused call every other number is 0 but for `link`, and no table has changed. What lies past the entries that a call needs stays
-//! unchanged. Zero bytes count as the file without members and links; they are no journal.
+//! refused call every other number is 0 but for `link`, two findings are not called equal, and no table has changed. What lies past the
+//! entries that a call needs stays unchanged. Zero bytes count as the file without members and links; they are no journal.
 //!
 //! `a` and `b` are the groups A and B that a call searches inside: one byte for each member, 1 in, 0 out. S lies in A and T in B, and so
 //! does every pair that the call speaks of. With everyone in both the whole network is searched.
@@ -87,6 +87,14 @@ pub struct LayersNumbers {
     pub layers: usize,
 }
 
+/// Whether two findings are equal; not where the call was refused.
+#[repr(C)]
+#[derive(Clone, Copy, Debug, PartialEq, Eq)]
+pub struct EqualNumbers {
+    pub refusal: u16,
+    pub equal: bool,
+}
+
 // A table crosses as a pointer and a length.
 #[rustfmt::skip]
 extern "C" {
@@ -137,7 +145,10 @@ extern "C" {
         file: *const u8, file_length: usize,
         s: *mut u8, s_length: usize, t: *mut u8, t_length: usize, work: *mut u16, work_length: usize,
     ) -> TotalsNumbers;
-    fn cogsplice_equal_findings(x: usize, y: usize, a: usize, b: usize) -> bool;
+    fn cogsplice_equal_findings(
+        x1: usize, y1: usize, n1: usize, s1: *const u8, s1_length: usize, t1: *const u8, t1_length: usize,
+        x2: usize, y2: usize, n2: usize, s2: *const u8, s2_length: usize, t2: *const u8, t2_length: usize,
+    ) -> EqualNumbers;
     fn cogsplice_journal(
         journal: *const u8, journal_length: usize, asked: usize,
         out: *mut u8, out_length: usize, numbers: *mut u8, numbers_length: usize, work: *mut u16, work_length: usize,
@@ -283,9 +294,23 @@ pub fn harmonic(file: &[u8], s: &mut [u8], t: &mut [u8], work: &mut [u16]) -> To
     }
 }
 
-/// Whether two findings are equal: `x` and `y` of one, `a` and `b` of the other.
-pub fn equal_findings(x: usize, y: usize, a: usize, b: usize) -> bool {
-    unsafe { cogsplice_equal_findings(x, y, a, b) }
+/// Whether two findings are equal, each given by its `x` and `y`, by n of the network that it was found in, and by S and T: where `x`, `y`
+/// and n agree and both groups have the same members. Refused by 4 where either n is above 2,048, then by 9 where a group is shorter than
+/// n, then by 11 where one of its first n bytes is neither 0 nor 1, each by n of its own finding. Only then do two n that differ mean
+/// unequal.
+// The library's own list of arguments.
+#[allow(clippy::too_many_arguments)]
+#[rustfmt::skip]
+pub fn equal_findings(
+    x1: usize, y1: usize, n1: usize, s1: &[u8], t1: &[u8],
+    x2: usize, y2: usize, n2: usize, s2: &[u8], t2: &[u8],
+) -> EqualNumbers {
+    unsafe {
+        cogsplice_equal_findings(
+            x1, y1, n1, s1.as_ptr(), s1.len(), t1.as_ptr(), t1.len(),
+            x2, y2, n2, s2.as_ptr(), s2.len(), t2.as_ptr(), t2.len(),
+        )
+    }
 }
 
 /// Follows the first `asked` entries of a journal, all where there are fewer. Writes the file of the links then present, ascending by

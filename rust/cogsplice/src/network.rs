@@ -66,20 +66,70 @@ impl fmt::Display for Pair {
 /// the smallest `x`.
 ///
 /// No pair of groups is more than twice as dense. In a quiet month, when the network has no link, all numbers are 0 and both groups are
-/// empty. Of a finding [`Network::within`] A and B all this holds of the cores and pairs inside them, and of the links from A to B. `==`
-/// compares all of a finding, [`Finding::equals`] what makes two findings equal.
-#[derive(Clone, Debug, PartialEq, Eq)]
+/// empty. Of a finding [`Network::within`] A and B all this holds of the cores and pairs inside them, and of the links from A to B. Two
+/// findings are equal, by `==`, as [`Finding::equals`] says.
+#[derive(Clone, Debug)]
 pub struct Finding {
     pub x: usize,
     pub y: usize,
     pub equal_level: usize,
     pub pair: Pair,
+    members: usize,
 }
 
 impl Finding {
-    /// Whether two findings, of the same network or not, are equal: the same `x` and the same `y`.
+    /// The finding of a call's numbers and the groups that it wrote, one byte for each member.
+    pub(crate) fn of(numbers: lent::FindingNumbers, s: &[u8], t: &[u8]) -> Finding {
+        Finding {
+            x: numbers.x,
+            y: numbers.y,
+            equal_level: numbers.equal,
+            pair: Pair::of(s, t, numbers.edges),
+            members: s.len(),
+        }
+    }
+
+    /// n, the number of members of the network that it was found in.
+    pub fn members(&self) -> usize {
+        self.members
+    }
+
+    /// Whether two findings, of the same network or not, are equal, that is the same people: `x`, `y` and n agree, and both groups have the
+    /// same members. `==` is the same.
+    ///
+    /// The equal level and E are not compared: two months with the same people may differ in them. A group is a set of members, in any
+    /// order. What is not below n, which only a hand can put into a group, is no member and does not count.
+    ///
+    /// ```
+    /// use cogsplice::Network;
+    /// // Each of three vouches for two of three others; in the next month one of them vouches for the third too.
+    /// let ring = [(0, 3), (0, 4), (1, 4), (1, 5), (2, 3), (2, 5)];
+    /// let first = Network::from_links(6, &ring).unwrap().finding();
+    /// let next = Network::from_links(6, &[&ring[..], &[(0, 5)]].concat()).unwrap().finding();
+    /// assert_eq!((first.pair.edges, next.pair.edges), (6, 7));
+    /// assert!(first.equals(&next));
+    /// assert_eq!(first, next);
+    /// // The same ring among one member more, and another ring of the same x and y.
+    /// assert_ne!(first, Network::from_links(7, &ring).unwrap().finding());
+    /// let other = Network::from_links(6, &ring.map(|(voucher, vouched)| (vouched, voucher))).unwrap().finding();
+    /// assert_eq!((first.x, first.y), (other.x, other.y));
+    /// assert_ne!(first, other);
+    /// ```
     pub fn equals(&self, other: &Finding) -> bool {
-        lent::equal_findings(self.x, self.y, other.x, other.y)
+        let ([s1, t1], [s2, t2]) = (self.groups(), other.groups());
+        let numbers = lent::equal_findings(self.x, self.y, self.members, &s1, &t1, other.x, other.y, other.members, &s2, &t2);
+        accepted(numbers.refusal);
+        numbers.equal
+    }
+
+    /// S and T as tables, one byte for each member.
+    fn groups(&self) -> [Vec<u8>; 2] {
+        [&self.pair.s, &self.pair.t].map(|members| {
+            let mut group = vec![0; self.members];
+            let below = members.iter().filter(|&&member| member < self.members);
+            below.for_each(|&member| group[member] = 1);
+            group
+        })
     }
 
     /// Whether the month was quiet: `x * y` is 0 exactly when there was no link to search, none in the network or none from A to B.
@@ -87,6 +137,16 @@ impl Finding {
         self.x * self.y == 0
     }
 }
+
+/// As [`Finding::equals`].
+impl PartialEq for Finding {
+    fn eq(&self, other: &Finding) -> bool {
+        self.equals(other)
+    }
+}
+
+// Numbers and sets of members are compared, so that each finding equals itself.
+impl Eq for Finding {}
 
 /// The four lines of the report program, without the end of the last.
 ///
@@ -322,8 +382,9 @@ impl Network {
     /// let star = Network::from_links(4, &[(0, 1), (0, 2), (0, 3)]).unwrap();
     /// let finding = star.finding();
     /// assert_eq!((finding.x, finding.y), (3, 1));
+    /// // A star of another member is another finding, though x and y are the same.
     /// let other = Network::from_links(4, &[(3, 0), (3, 1), (3, 2)]).unwrap();
-    /// assert!(finding.equals(&other.finding()));
+    /// assert_ne!(finding, other.finding());
     /// // A star does not hide a ring of the same product: here [4,1] and [2,2].
     /// let both = [(0, 1), (0, 2), (0, 3), (0, 4), (5, 7), (5, 8), (6, 7), (6, 8)];
     /// assert_eq!(Network::from_links(9, &both).unwrap().finding().pair.s, [5, 6]);
@@ -419,7 +480,7 @@ pub(crate) fn number(value: usize) -> [u8; 2] {
 }
 
 /// A network was accepted when it was made, its tables are as long as the calls need, and its groups hold 0 and 1 alone, so that no call is
-/// refused but for a number that it is given.
+/// refused but for a number that it is given. The same holds of its findings, which have its n.
 pub(crate) fn accepted(refusal: u16) {
     assert_eq!(refusal, 0, "an accepted network was refused");
 }

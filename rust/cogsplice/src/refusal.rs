@@ -21,7 +21,7 @@ pub enum Refusal {
     Mark,
     /// 3: its version is not 1.
     Version,
-    /// 4: n is above 2,048.
+    /// 4: n is above 2,048; of two findings that are compared, either n is.
     Members,
     /// 5: m is above 8,192.
     Links,
@@ -37,7 +37,8 @@ pub enum Refusal {
     Table,
     /// 10: the member of a row, or of a group, is not below n.
     Member,
-    /// 11: a byte among the first n of a group that a call is lent to read, S or T of the count, A or B, is neither 0 nor 1.
+    /// 11: a byte among the first n of a group that a call is lent to read, S or T of the count or of findings that are compared, A or B, is
+    /// neither 0 nor 1.
     Group,
     /// 12: a level was asked for 0.
     Zero,

@@ -91,12 +91,7 @@ impl<'a> Within<'a> {
         let (mut s, mut t, mut work) = self.network.tables();
         let numbers = lent::finding(self.network.file(), &self.a, &self.b, &mut s, &mut t, &mut work);
         accepted(numbers.refusal);
-        Finding {
-            x: numbers.x,
-            y: numbers.y,
-            equal_level: numbers.equal,
-            pair: Pair::of(&s, &t, numbers.edges),
-        }
+        Finding::of(numbers, &s, &t)
     }
 
     /// The layers of the links from A to B; none where there is no such link. Every other link is in no layer.

@@ -9,7 +9,7 @@ fn address<T>(part: &T) -> usize {
 /// The lines of a struct: its size, and where each field lies.
 macro_rules! lines {
     ($name:literal, $kind:ident { $($field:ident),* }) => {{
-        let whole = $kind { $($field: 0),* };
+        let whole = $kind { $($field: Default::default()),* };
         let size = format!("SIZE({}, {})", $name, size_of_val(&whole));
         let fields = [$((stringify!($field), address(&whole.$field) - address(&whole))),*];
         let field = |&(field, at): &(&str, usize)| format!("FIELD({}, {field}, {at})", $name);
@@ -49,6 +49,7 @@ fn structs_lie_as_in_c() {
             }
         ),
         lines!("layers_numbers", LayersNumbers { refusal, link, layers }),
+        lines!("equal_numbers", EqualNumbers { refusal, equal }),
     ]
     .concat();
     let wanted = include_str!("../../../tests/layout.def").lines();

@@ -1,7 +1,7 @@
 //! Refusals, and the answers of refused calls.
 use cogsplice::lent::{
-    CheckNumbers, FindingNumbers, IndexNumbers, LayersNumbers, LevelNumbers, TotalsNumbers,
-    WriteNumbers,
+    CheckNumbers, EqualNumbers, FindingNumbers, IndexNumbers, LayersNumbers, LevelNumbers,
+    TotalsNumbers, WriteNumbers,
 };
 
 /// The order in which refusals are tested: the first that applies is given.
@@ -55,7 +55,7 @@ pub fn too_short(tables: &[(usize, usize)]) -> bool {
     tables.iter().any(|&(length, needed)| length < needed)
 }
 
-/// The answer of a refused call: every other number is 0.
+/// The answer of a refused call: every other number is 0, and two findings are not equal.
 pub trait Refused {
     fn refused(refusal: Refusal) -> Self;
 }
@@ -133,6 +133,15 @@ impl Refused for LayersNumbers {
             refusal: number,
             link,
             layers: 0,
+        }
+    }
+}
+
+impl Refused for EqualNumbers {
+    fn refused(Refusal { number, .. }: Refusal) -> Self {
+        EqualNumbers {
+            refusal: number,
+            equal: false,
         }
     }
 }

@@ -246,8 +246,3 @@ fn try_finding(
         targets,
     })
 }
-
-/// Two findings are equal when their x and y are equal.
-pub fn equal_findings(x: usize, y: usize, a: usize, b: usize) -> bool {
-    x == a && y == b
-}

@@ -4,6 +4,7 @@
 //! library itself is not called here. A work table's contents mean nothing, so only its length is handed over.
 mod answers;
 mod cores;
+mod equal;
 mod file;
 mod groups;
 mod harmonic;
@@ -13,7 +14,8 @@ mod layers;
 mod report;
 
 pub use answers::{first_of, Refusal};
-pub use cores::{core, equal_findings, equal_level, finding, level, level_across, work_length};
+pub use cores::{core, equal_level, finding, level, level_across, work_length};
+pub use equal::{equal_findings, Found};
 pub use file::{check, file_length, order, read, read_any_order, write, LINKS, MEMBERS};
 pub use groups::count;
 pub use harmonic::harmonic;

@@ -99,6 +99,14 @@ fn busy_member() -> Vec<u8> {
     encode_journal(2033, &entries)
 }
 
+/// Network W of other members: each stands three places further on, and the last three where the first did.
+fn other_members() -> Vec<u8> {
+    let Network { n, links } = Network::w();
+    let moved = |member| (member + 3) % n;
+    let links = links.into_iter().map(|(a, b)| (moved(a), moved(b)));
+    in_order(n, links.collect())
+}
+
 /// Network W with links 2 and 3 exchanged.
 fn exchanged() -> Vec<u8> {
     let mut network = Network::w();
@@ -122,6 +130,7 @@ fn main() {
     let write = |name: &str, file: &[u8]| write_as("vch", name, file);
     let w = encode(&Network::w());
     write("w", &w);
+    write("other-members", &other_members());
     write("star", &network(4, &[(0, 1), (0, 2), (0, 3)]));
     write("tie", &network(6, &[(0, 1), (0, 2), (3, 5), (4, 5)]));
     write("star-and-ring", &encode(&Network::star_and_ring()));

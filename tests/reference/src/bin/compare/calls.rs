@@ -25,7 +25,6 @@ pub fn try_all(case: &mut Case) {
     try_finding(case);
     try_layers(case);
     try_harmonic(case);
-    try_equal_findings(case);
     let after = case.file.clone();
     case.compare(|| "the file stays as it was".into(), before, after);
 }
@@ -322,21 +321,6 @@ fn try_layers(case: &mut Case) {
             || format!("layers, lengths {lengths:?}"),
             (expected, groups, layers, work),
             (given, library_groups, library_layers, library_work),
-        );
-    }
-}
-
-fn try_equal_findings(case: &mut Case) {
-    let mut values = [0, 1, 2, 3, 65_535, usize::MAX, case.draw.number() as usize];
-    case.draw.shuffle(&mut values);
-    let [x, y, a, b, ..] = values;
-    for (a, b) in [(x, y), (y, x), (x, b), (a, y), (a, b)] {
-        let expected = reference::equal_findings(x, y, a, b);
-        let given = lent::equal_findings(x, y, a, b);
-        case.compare(
-            || format!("equal_findings {x} {y} {a} {b}"),
-            expected,
-            given,
         );
     }
 }

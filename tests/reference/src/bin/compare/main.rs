@@ -7,6 +7,7 @@ mod calls;
 mod case;
 mod damage;
 mod enumerate;
+mod equal;
 mod indexes;
 mod inside;
 mod journal;
@@ -34,7 +35,7 @@ struct Part {
     run: fn(&mut Case),
 }
 
-const PARTS: [Part; 17] = [
+const PARTS: [Part; 18] = [
     Part {
         name: "paper",
         cases: 1,
@@ -89,6 +90,11 @@ const PARTS: [Part; 17] = [
         name: "rows",
         cases: 10_000,
         run: rows::random,
+    },
+    Part {
+        name: "equal",
+        cases: 60,
+        run: equal::equal,
     },
     Part {
         name: "journal-examples",

@@ -16,6 +16,15 @@ impl Table<u8> {
         let entries = draw.bytes(length + 2 * GUARD);
         Table { entries, length }
     }
+
+    /// A table that lends these bytes, with random ones before and behind them.
+    pub fn holding(draw: &mut Draw, lent: &[u8]) -> Table<u8> {
+        let (before, behind) = (draw.bytes(GUARD), draw.bytes(GUARD));
+        Table {
+            entries: [&before, lent, &behind].concat(),
+            length: lent.len(),
+        }
+    }
 }
 
 impl Table<u16> {
