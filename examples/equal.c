@@ -18,8 +18,9 @@ static struct finding one, other;
 static uint16_t work[COGSPLICE_WORK(COGSPLICE_MEMBERS, COGSPLICE_LINKS)];
 
 static void find(const char *name, struct finding *found) {
+    static uint8_t room[ROOM];
     size_t length = sizeof network_w;
-    const uint8_t *file = name == NULL ? network_w : read_network(opened(name), &length);
+    const uint8_t *file = name == NULL ? network_w : read_network(opened(name), room, &length);
     const uint8_t *all = everyone();
     found->numbers = cogsplice_finding(
         file, length, all, COGSPLICE_MEMBERS, all, COGSPLICE_MEMBERS,
@@ -35,12 +36,11 @@ static void print_first_line(const struct finding *found) {
 }
 
 int main(int argc, char **argv) {
-    const char *first = argc > 1 ? argv[1] : NULL, *second = argc > 2 ? argv[2] : NULL;
-    if (second != NULL && is_standard_input(first) && is_standard_input(second))
-        give_up("standard input is one file, not two");
+    const char *names[2];
+    two_names(argc, argv, names);
     /* Both files are read before anything is printed. */
-    find(first, &one);
-    find(second, &other);
+    find(names[0], &one);
+    find(names[1], &other);
     print_first_line(&one);
     print_first_line(&other);
     if (one.numbers.refusal != COGSPLICE_ACCEPTED || other.numbers.refusal != COGSPLICE_ACCEPTED)

@@ -77,8 +77,6 @@ int main(int argc, char **argv) {
     for (size_t entry = 0; entry < length; entry++)
         if (numbers[entry] != 0)
             fprintf(stderr, "entry %zu refused %u\n", entry, (unsigned)numbers[entry]);
-    fwrite(out, 1, COGSPLICE_FILE(written.m), stdout);
-    if (fflush(stdout) != 0 || ferror(stdout))
-        give_up("standard output cannot be written");
+    write_network(out, written.m);
     return 0;
 }

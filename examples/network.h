@@ -1,5 +1,5 @@
-/* What the examples share: the file that they look at, a group of everyone to search in, and the lines of a refusal, of a finding and of a
- * pair. What not every example needs is inline. */
+/* What the examples share: the files that they look at, a group of everyone to search in, the lines of a refusal, of a finding and of a
+ * pair, and the file that they write. What not every example needs is inline. */
 #include "cogsplice.h"
 
 #include <stdio.h>
@@ -13,7 +13,8 @@ static const uint8_t network_w[] = {
     2, 0, 3, 0, 2, 0, 4, 0, 4, 0, 5, 0, 5, 0, 5, 0,
 };
 
-static uint8_t input[COGSPLICE_FILE(COGSPLICE_LINKS) + 1];
+/* Room for a network file, and for a byte more, by which one that is too long is told. */
+#define ROOM (COGSPLICE_FILE(COGSPLICE_LINKS) + 1)
 
 static inline void give_up(const char *why) {
     fprintf(stderr, "%s\n", why);
@@ -32,20 +33,29 @@ static inline FILE *opened(const char *name) {
     return from;
 }
 
-/* A network file. An input that cannot be read is no empty file. */
-static inline const uint8_t *read_network(FILE *from, size_t *length) {
-    *length = fread(input, 1, sizeof input, from);
+/* A network file, read into a table of ROOM bytes. An input that cannot be read is no empty file. */
+static inline const uint8_t *read_network(FILE *from, uint8_t *room, size_t *length) {
+    *length = fread(room, 1, ROOM, from);
     if (ferror(from))
         give_up("the network file cannot be read");
-    return input;
+    return room;
 }
 
 /* Network W, or standard input if it is named by "-". */
 static inline const uint8_t *network_file(int argc, char **argv, size_t *length) {
+    static uint8_t room[ROOM];
     if (argc > 1 && is_standard_input(argv[1]))
-        return read_network(stdin, length);
+        return read_network(stdin, room, length);
     *length = sizeof network_w;
     return network_w;
+}
+
+/* The names of two files, NULL for one that is not named. */
+static inline void two_names(int argc, char **argv, const char *names[2]) {
+    names[0] = argc > 1 ? argv[1] : NULL;
+    names[1] = argc > 2 ? argv[2] : NULL;
+    if (names[1] != NULL && is_standard_input(names[0]) && is_standard_input(names[1]))
+        give_up("standard input is one file, not two");
 }
 
 /* A group that everyone is in: as A and as B it has the whole network searched. */
@@ -80,4 +90,11 @@ static inline void print_pair(uint32_t edges, const uint8_t *s, size_t sources, 
     printf("links %u vouchers %zu vouched %zu\n", (unsigned)edges, sources, targets);
     print_group("S", s, n);
     print_group("T", t, n);
+}
+
+/* The network file of m links, to standard output. */
+static inline void write_network(const uint8_t *file, size_t m) {
+    fwrite(file, 1, COGSPLICE_FILE(m), stdout);
+    if (fflush(stdout) != 0 || ferror(stdout))
+        give_up("standard output cannot be written");
 }

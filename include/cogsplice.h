@@ -36,10 +36,10 @@
  * is searched. They are read, and never written.
  *
  * Every answer has `refusal`: 0 where the call was accepted, else one of COGSPLICE_REFUSED_.., the first that applies in the order of
- * the tests: 1 to 8, 15, 9, 10, 11, 12, 14. Of 7, 8 and 15 each is tested over all links before the next. Of a refused call every other
- * number is 0, but for `link`, two findings are not called equal, and no table has changed. `link`, where an answer has it, is the link's
- * number for refusals 7, 8 and 15, else 0. A table may be longer than the call needs: what lies past the needed entries is neither read
- * nor changed.
+ * the tests: 1 to 8, 15, 21, 9, 10, 11, 12, 14. Of 7, 8 and 15 each is tested over all links before the next, and of two files 1 to 8 and
+ * 15 all on the first before any on the second. Of a refused call every other number is 0, but for `link`, two findings are not called
+ * equal, and no table has changed. `link`, where an answer has it, is the link's number for refusals 7, 8 and 15, of two files in the one
+ * that is refused, else 0. A table may be longer than the call needs: what lies past the needed entries is neither read nor changed.
  *
  * Each entry that is followed has a number too: 0 where it does what it says, else one of COGSPLICE_REFUSED_.., the first that applies
  * in the order of the tests: 18, 10, 16, 17, 19, 20. A refused entry is skipped: it changes nothing, and the next one is followed.
@@ -61,7 +61,7 @@ extern "C" {
 #define COGSPLICE_DUE 4    /* the vouches due to each member of a journal */
 
 /* The entries that a table needs, for a file of n members and m links. */
-#define COGSPLICE_FILE(m) (9 + 4 * (size_t)(m))                           /* uint8_t: a network file, the output of write and order */
+#define COGSPLICE_FILE(m) (9 + 4 * (size_t)(m))                           /* uint8_t: a network file, the output of write, order and common */
 #define COGSPLICE_GROUP(n) ((size_t)(n))                                  /* uint8_t: S, T, A, B */
 #define COGSPLICE_STARTS(n) ((size_t)(n) + 1)                             /* uint16_t: out_starts, in_starts */
 #define COGSPLICE_ROWS(m) ((size_t)(m))                                   /* uint16_t: out_rows, in_rows */
@@ -102,7 +102,9 @@ enum {
     COGSPLICE_REFUSED_ABSENT = 17,  /* the link that it withdraws is absent */
     COGSPLICE_REFUSED_ENTRY = 18,   /* its kind or its name is above 3, its name is not followed by 0, or it returns to a state never set */
     COGSPLICE_REFUSED_GIVEN = 19,   /* the voucher of the link that it adds has given COGSPLICE_GIVEN */
-    COGSPLICE_REFUSED_PLACE = 20    /* that voucher has given COGSPLICE_DUE or more, and live + due is COGSPLICE_LINKS */
+    COGSPLICE_REFUSED_PLACE = 20,   /* that voucher has given COGSPLICE_DUE or more, and live + due is COGSPLICE_LINKS */
+    /* of two files */
+    COGSPLICE_REFUSED_MISMATCH = 21 /* they have different numbers of members */
 };
 
 /* The side of a row: what a member vouches for, or who vouches for it. */
@@ -154,6 +156,11 @@ struct cogsplice_layers_numbers {
 struct cogsplice_equal_numbers {
     uint16_t refusal;
     bool equal;
+};
+
+struct cogsplice_common_numbers {
+    uint16_t refusal, link;
+    size_t both, first_only, second_only; /* the numbers of links in both files, in the first only and in the second only */
 };
 
 /* n and m of a file. Refusals 1 to 8, 15, as in every call on a network file but cogsplice_order. */
@@ -302,6 +309,18 @@ struct cogsplice_equal_numbers cogsplice_equal_findings(
     size_t x2, size_t y2, size_t n2,
     const uint8_t *s2, size_t s2_length,
     const uint8_t *t2, size_t t2_length);
+
+/* Takes two files over the same n, such as vouchers and vouched keep of the same events, and writes the links that are in both, the same
+ * voucher and the same vouched, as the file of this n and these links, ascending by voucher, then vouched, into the first
+ * COGSPLICE_FILE(both) bytes of out. Every call accepts it: a finding in it is a ring that both files bear out. The first file's m is
+ * both + first_only, the second's both + second_only. With the two exchanged the same file is written, and first_only and second_only are
+ * exchanged. Of a file with itself it is the file itself, and of zero bytes the file that they count as. Both are read only, and may
+ * overlap. The call is refused, in this order, by 1 to 8 and 15 for the first file, by the same for the second, by 21 where the two n
+ * differ, and by 9 where out is shorter than COGSPLICE_FILE(both). Refusals 1 to 8, 15, 21, 9. */
+struct cogsplice_common_numbers cogsplice_common(
+    const uint8_t *first, size_t first_length,
+    const uint8_t *second, size_t second_length,
+    uint8_t *out, size_t out_length);
 
 #ifdef __cplusplus
 }

@@ -2,6 +2,7 @@
 #include "cogsplice.h"
 
 #include <stdio.h>
+#include <string.h>
 
 /* 6 members and 8 links, and no member and no link. */
 static const uint8_t w[] = {
@@ -71,6 +72,7 @@ static void no_table(void) {
     EXPECT(9, cogsplice_harmonic(W, NONE, ALL(t), ALL(work)));
     EXPECT(9, cogsplice_harmonic(W, ALL(s), NONE, ALL(work)));
     EXPECT(9, cogsplice_harmonic(W, ALL(s), ALL(t), NONE));
+    EXPECT(9, cogsplice_common(W, W, NONE));
 }
 
 /* Of a network without members and links, groups, rows and layers of no entries are long enough. */
@@ -87,6 +89,8 @@ static void enough(const uint8_t *file, size_t length) {
     EXPECT(0, cogsplice_finding(file, length, NONE, NONE, NONE, NONE, ALL(work)));
     EXPECT(0, cogsplice_layers(file, length, NONE, NONE, NONE, ALL(work)));
     EXPECT(0, cogsplice_harmonic(file, length, NONE, NONE, ALL(work)));
+    EXPECT(0, cogsplice_common(file, length, NOBODY, ALL(out)));
+    EXPECT(0, cogsplice_common(NOBODY, file, length, ALL(out)));
 }
 
 /* Outputs, starts and work tables of no entries are too short for every network. */
@@ -102,6 +106,8 @@ static void not_enough(const uint8_t *file, size_t length) {
     EXPECT(9, cogsplice_finding(file, length, NONE, NONE, NONE, NONE, NONE));
     EXPECT(9, cogsplice_layers(file, length, NONE, NONE, NONE, NONE));
     EXPECT(9, cogsplice_harmonic(file, length, NONE, NONE, NONE));
+    EXPECT(9, cogsplice_common(file, length, NOBODY, NONE));
+    EXPECT(9, cogsplice_common(NOBODY, file, length, NONE));
 }
 
 static void row(unsigned refusal, bool side, const uint16_t *table, size_t length) {
@@ -150,6 +156,19 @@ static void equal(void) {
     expect("nobody and others: equal", false, cogsplice_equal_findings(2, 3, 0, NONE, NONE, 2, 3, 6, ALL(s), ALL(t)).equal);
 }
 
+/* Of no bytes twice the file is nobody's, of 9 bytes, and 21 comes before 9. */
+static void common(void) {
+    uint8_t written[COGSPLICE_FILE(0)] = {0};
+    struct cogsplice_common_numbers told = cogsplice_common(NONE, NONE, ALL(written));
+    expect("nothing twice", 0, told.refusal);
+    expect("nothing twice: totals", 0, (unsigned)(told.both + told.first_only + told.second_only));
+    expect("nothing twice: nobody's file", true, memcmp(written, nobody, sizeof nobody) == 0);
+    EXPECT(9, cogsplice_common(NONE, NONE, written, sizeof written - 1));
+    EXPECT(9, cogsplice_common(NONE, NONE, NONE));
+    EXPECT(21, cogsplice_common(W, NONE, NONE));
+    EXPECT(21, cogsplice_common(NONE, W, NONE));
+}
+
 int main(void) {
     no_table();
     enough(NOBODY);
@@ -161,5 +180,6 @@ int main(void) {
     rows_of(COGSPLICE_VOUCHED);
     journal();
     equal();
+    common();
     return faults != 0;
 }

@@ -49,7 +49,7 @@ pub struct Input {
 
 impl Input {
     /// The network of links in random order, searched with everyone in A and B.
-    fn new(name: &str, n: usize, links: Vec<Link>, random: &mut Draw) -> Self {
+    pub fn new(name: &str, n: usize, links: Vec<Link>, random: &mut Draw) -> Self {
         let mut group = || (0..n).map(|_| random.below(2) as u8).collect();
         let (m, mut network) = (links.len(), Network { n, links });
         let shuffled = encode(&network);
@@ -112,7 +112,7 @@ fn fill(links: &mut Vec<Link>, n: usize, m: usize, mut draw: impl FnMut() -> Lin
 }
 
 /// So many different links, in random order.
-fn uniform(n: usize, m: usize, random: &mut Draw) -> Vec<Link> {
+pub fn uniform(n: usize, m: usize, random: &mut Draw) -> Vec<Link> {
     let mut links = Vec::new();
     fill(&mut links, n, m, || (random.below(n), random.below(n)));
     links

@@ -1,4 +1,5 @@
 //! Measures the proved library against the same calls in plain Rust, prints the tables and writes docs/BENCHMARKS.md.
+mod common;
 mod equal;
 mod follow;
 mod inputs;
@@ -6,15 +7,18 @@ mod journals;
 mod measure;
 mod pairs;
 mod plain;
+mod records;
 mod report;
 mod sides;
 
+use common::share;
 use equal::compare;
 use follow::follow;
 use inputs::{growing, shapes, HALVED};
 use journals::journals;
 use measure::{measure, Halved};
 use pairs::pairs;
+use records::records;
 use sides::{Call, Timed};
 use std::path::Path;
 
@@ -36,7 +40,8 @@ fn main() -> std::io::Result<()> {
     let growth = all(growing());
     let journals: Vec<_> = journals().into_iter().map(follow).collect();
     let pairs: Vec<_> = pairs().into_iter().map(compare).collect();
-    let text = report::report(&shapes, &halves, &growth, &journals, &pairs);
+    let records = records().map(share);
+    let text = report::report(&shapes, &halves, &growth, &journals, &pairs, &records);
     print!("{text}");
     let page = Path::new(env!("CARGO_MANIFEST_DIR")).join("../docs/BENCHMARKS.md");
     std::fs::write(page, text)

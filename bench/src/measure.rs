@@ -102,7 +102,7 @@ fn compare(library: &mut Library, plain: &mut PlainRust, file: &[u8], input: &In
 }
 
 /// Damaged files, each with the refusal that it must get.
-fn damaged(input: &Input) -> Vec<(usize, Vec<u8>)> {
+pub fn damaged(input: &Input) -> Vec<(usize, Vec<u8>)> {
     let file = input.file(Links::Ascending);
     let mut damaged = vec![
         (1, file[..8].to_vec()),

@@ -1,6 +1,7 @@
 //! The library's calls in plain Rust, written for speed: the same answers, refusals and lent tables. What they sort and peel in is
 //! kept from call to call, so that no call allocates once the largest network was seen.
 mod chunks;
+mod common;
 mod drops;
 mod equal;
 mod journal;
@@ -8,6 +9,7 @@ mod network;
 mod peel;
 
 use chunks::chunks_mut;
+pub use common::{by_blocks, by_branches, by_steps, Merge};
 use drops::Drops;
 pub use equal::{compared_first, equal_findings, Lent};
 pub use journal::{Links, States};
@@ -73,6 +75,8 @@ pub struct Plain {
     inside: Vec<Link>,
     /// The numbers of the links from A to B that no layer has yet, ascending.
     left: Vec<u16>,
+    /// The links in both of two files.
+    both: Vec<Link>,
 }
 
 impl Plain {
@@ -249,6 +253,31 @@ impl Plain {
         self.peel.load(n, links.iter());
         let edges = self.drops.harmonic(&self.peel, s, t);
         Ok([edges, size_of(s), size_of(t)])
+    }
+
+    /// Writes the file of the links that are in both files, found in one pass by `merge`, and returns how many are in both, in the first only
+    /// and in the second only.
+    pub fn common(
+        &mut self,
+        merge: Merge,
+        [first, second]: [&[u8]; 2],
+        out: &mut [u8],
+    ) -> Result<[usize; 3], Refusal> {
+        let one = self.sorter.accept(first)?;
+        let other = self.sorter.accept(second)?;
+        if one.n != other.n {
+            return Err(Refusal::of(21));
+        }
+        let [of_one, of_other] = [one.links.len(), other.links.len()];
+        self.both.resize(of_one.min(of_other) + 1, Link::default());
+        let both = merge(one.links, other.links, &mut self.both);
+        let length = HEADER_LENGTH + 4 * both;
+        Refusal::of_tables(&[(out.len(), length)])?;
+        let (header, links) = out[..length].split_at_mut(HEADER_LENGTH);
+        header.copy_from_slice(&counted(first)[..HEADER_LENGTH]);
+        header[7..].copy_from_slice(&(both as u16).to_le_bytes());
+        chunks_mut(links).copy_from_slice(&self.both[..both]);
+        Ok([both, of_one - both, of_other - both])
     }
 
     /// Has the peel take the links from A to B over, and tells whether there are any. With everyone in both groups these are all links.

@@ -1,4 +1,5 @@
 //! The text of the measurements.
+use crate::common::Shared;
 use crate::equal::Compared;
 use crate::follow::Followed;
 use crate::inputs::Links;
@@ -44,6 +45,9 @@ const JOURNAL_MOST: f64 = 1.2;
 /// The same for the comparison of findings.
 const EQUAL_MOST: f64 = 1.2;
 
+/// The same for the links in both of two files.
+const COMMON_MOST: f64 = 1.2;
+
 /// Whatever is measured, for the screen and for docs/BENCHMARKS.md.
 pub fn report(
     shapes: &[Measured],
@@ -51,11 +55,13 @@ pub fn report(
     growth: &[Measured],
     journals: &[Followed],
     pairs: &[Compared],
+    records: &[Shared],
 ) -> String {
     let goals = [
         goal_table(shapes, halves, growth),
         journal_goal(journals),
         equal_goal(pairs),
+        common_goal(records),
     ];
     let parts = [
         ("Goals", goals.concat()),
@@ -64,6 +70,7 @@ pub fn report(
         ("Links in any order", order_table(shapes)),
         ("Journals", journal_table(journals)),
         ("Two findings compared", equal_table(pairs)),
+        ("Links in both of two files", common_table(records)),
         ("Growth", growth_tables(growth)),
     ];
     let how = how_measured();
@@ -74,7 +81,10 @@ pub fn report(
 
 fn how_measured() -> String {
     let (today, machine) = (today(), machine());
-    let (kit, compiler) = (version_of("rt", "version"), version_of("rustc", "--version"));
+    let (kit, compiler) = (
+        version_of("rt", "version"),
+        version_of("rustc", "--version"),
+    );
     let round = ROUND.as_millis();
     format!(
         "The proved library against the same calls in plain Rust (`bench/src/plain.rs`), in one run of
@@ -88,7 +98,8 @@ fn how_measured() -> String {
 Before the calls on a network are timed, both sides must give the same answers, the same tables, and the same refusals of damaged files
 and of a faulty A or B; before a journal is, the same after none, some and all of its entries, and the same refusals of damaged ones and of
 short tables; before two findings are compared, the same answer, and the same refusals where n is too large, a table too short or a group
-faulty in either or both.
+faulty in either or both; before the links in both of two files are looked for, the same file and numbers either way round, and the same
+refusals of each damaged file beside each, of two n that differ and of short outputs.
 Then each call is timed, the two sides turn by turn, in {ROUNDS} rounds of at least {round} ms for each side. The least time of one
 call counts, in microseconds, or in nanoseconds where two findings are compared. The ratio is the library's time divided by that of plain
 Rust.
@@ -143,6 +154,14 @@ fn equal_goal(pairs: &[Compared]) -> String {
         })
         .collect();
     goal_line("equal findings", EQUAL_MOST, ratios) + "\n"
+}
+
+fn common_goal(records: &[Shared]) -> String {
+    let ratios = records
+        .iter()
+        .map(|one| (one.ratio(), format!("in both: {}", one.records.name)))
+        .collect();
+    goal_line("common", COMMON_MOST, ratios) + "\n"
 }
 
 /// How a call keeps to the ratio that is its goal, by all ratios measured and what they were measured on.
@@ -277,6 +296,28 @@ compares the groups before it tests them, and where they agree tests those of on
         let [library, plain, first] = [one.library, one.plain, one.first].map(|time| time * 1e3);
         let line =
             format!("| {n} | {name} | {library:.1} | {plain:.1} | {ratio:.2} | {first:.1} |");
+        add(&mut text, &line);
+    }
+    text
+}
+
+/// The pairs of files, with plain Rust that looks for the links in both by simpler means beside the two sides.
+fn common_table(records: &[Shared]) -> String {
+    let mut text = "Each file has bytes of its own, 2,048 members and 8,192 links, all drawn; two files that share all links have the same bytes. The output
+is as long as either file. Both sides check both files before they look for the links in both. Plain Rust then passes over the two lists
+once. Where they agree it compares eight links of each at once, and copies all that agree in one piece; where they do not it takes steps
+that branch by no link, in which it reads the links that may be next before it knows which is. It writes to a table that is kept from call
+to call, and copies the links in both to the output once it knows that they fit: one pass is enough whatever the output's length. Beside the
+two sides stand plain Rust that takes such steps alone, each after the links are read, and plain Rust that branches at each link.
+
+| In both | Links in both | Library (µs) | Plain Rust (µs) | Ratio | By steps (µs) | By branches (µs) |
+|---|---|---|---|---|---|---|
+".to_string();
+    for one in records {
+        let (name, both, ratio) = (one.records.name, one.records.both, one.ratio());
+        let Shared { library, plain, .. } = one;
+        let (steps, branches) = (one.steps, one.branches);
+        let line = format!("| {name} | {both} | {library:.1} | {plain:.1} | {ratio:.2} | {steps:.1} | {branches:.1} |");
         add(&mut text, &line);
     }
     text

@@ -14,14 +14,12 @@ use Rattle.graph.specs.Order.{Ascending}
 use Rattle.graph.proofs.Ranges.{flat-ext}
 use Rattle.graph.proofs.Ascending.{ascending-edge_at, Alike, ascending-alike}
 use Rattle.network.specs.File.{u16_at, link_at, graph_of}
-use Rattle.network.specs.Bytes.{u16, header, edge_bytes, written}
+use Rattle.network.specs.Bytes.{u16, header, edge_bytes, standing, written}
 use Rattle.network.specs.Accepted.{Headed}
 use Rattle.network.proofs.Accepted.{accepted}
-use Rattle.calls.specs.Calls.{Filed, OneOrder}
-
--- the file with its edges as they stand
-abbrev standing : Graph → List ℕ
-standing g = header g.order g.size ++ flat (λ e. edge_bytes (g.source e) (g.target e)) g.size
+use Rattle.network.specs.Held.{Filed}
+use Rattle.network.proofs.Held.{written-standing}
+use Rattle.calls.specs.Calls.{OneOrder}
 
 module _ (f : List ℕ) (bytes : (i : ℕ) → get_or f i 0 < 256) where
   -- a number's two bytes, before what comes after them
@@ -63,11 +61,6 @@ module _ (f : List ℕ) (bytes : (i : ℕ) → get_or f i 0 < 256) where
       ap (λ t. header g.order g.size ++ t)
       (sym (append-nil (flat bytes_at g.size)) ∙ ap (λ t. flat bytes_at g.size ++ t) (sym last) ∙ edges-front g.size (omega (arith, a.exact)))
       ∙ header-front a
-
--- edges that ascend are written as they stand
-written-standing : (g : Graph) → Ascending g → written g ≡ standing g
-written-standing g next =
-    ap (λ t. header g.order g.size ++ t) (flat-ext g.size (λ i l. ap (λ e. edge_bytes (g.source e) (g.target e)) (ascending-edge_at g next i l)))
 
 -- so a file whose edges ascend is the written one
 pub written-itself : (f : List ℕ) → ((i : ℕ) → get_or f i 0 < 256) → Headed f → Ascending (graph_of f) → written (graph_of f) ≡ f

@@ -8,6 +8,7 @@ use Rattle.network.specs.declared.Totals.{Totals}
 use Rattle.network.specs.File.{link_at, graph_of, file_refusal}
 use Rattle.network.specs.Groups.{group_of, totals}
 use Rattle.network.specs.Bytes.{written}
+use Rattle.network.specs.Held.{Filed}
 use Rattle.network.specs.Refusals.{count_refusal, write_refusal, order_refusal}
 use Rattle.network.specs.Calls.{Call}
 
@@ -42,12 +43,6 @@ WriteCall f out out' = Call (write_refusal f (length out)) (out ∷ []) (out' �
 -- 02, wish 7: the conversion: it takes a file by the old rule, and the file in the output is accepted by the new one
 abbrev pub OrderCall : List ℕ → List ℕ → List ℕ → Result ℕ Refusal → Type 0
 OrderCall f out out' = Call (order_refusal f (length out)) (out ∷ []) (out' ∷ []) (Rewritten f out out')
-
--- a file of bytes that is accepted and not empty
-pub record Filed (f : List ℕ) : Type 0 where
-  pub bytes : (i : ℕ) → get_or f i 0 < 256
-  pub some : 1 ≤ length f
-  pub accepted : file_refusal f ≡ None
 
 -- 02, wish 7: with the same n and no empty input, two accepted files hold the same links exactly when their bytes are equal
 abbrev pub OneOrder : Type 0

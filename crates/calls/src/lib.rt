@@ -4,9 +4,11 @@
 mod checks;
 mod counts;
 mod orders;
+mod puts;
 mod writes;
 
 pub use checks::check;
 pub use counts::count;
 pub use orders::order;
+pub use puts::put_file;
 pub use writes::write;

@@ -33,8 +33,12 @@ use Rattle.journal.specs.Entries.{members as members_of, header_refusal}
 use Rattle.journal.specs.Journal.{live, due, after}
 use Rattle.journal.specs.Calls.{count_of}
 use Rattle.finding.specs.Equality.{Found, Agree, Equal, equal_refusal}
+use Rattle.network.specs.Held.{FileOf}
+use Rattle.merging.specs.Shared.{is_shared, shared, unshared}
+use Rattle.merging.specs.Calls.{pair_refusal, common_refusal, InBoth}
+use Rattle.merging.proofs.Shares.{shared-linked}
 use Rattle.cases.specs.Journals.{numbers_after, pairs_after, SaysJournal, SaysTotals}
-use Rattle.cases.specs.Cases.{numbers_of, members, Ring, Counts, Claim, core, level, across, finding, layers, harmonic, has, gives, orders, follows, totals, heads, against, compares, Rings, SaysRing, found, SaysAgainst, Says, Case, Hold}
+use Rattle.cases.specs.Cases.{numbers_of, members, Ring, Counts, Claim, core, level, across, finding, layers, harmonic, has, gives, orders, follows, totals, heads, against, compares, shares, pairs, Rings, SaysRing, found, SaysAgainst, SaysShares, Says, Case, Hold}
 use Rattle.cases.proofs.Sweep.{with_out, with_in, sources_left, targets_left, covers-sweep}
 use Rattle.cases.proofs.Drops.{drops, found_of, places-found}
 
@@ -448,6 +452,48 @@ against-sound f g A B p q equal h =
     let (to, from) = same_exact (found f p) (found g q) in
     record { mine = has_ring-sound f A B p a; theirs = has_ring-sound g A B q b; told = (λ i. to (sym e ∙ i), λ i. e ∙ from i) }
 
+-- of two files a third is a file of the links in both: each link of it is in both, and each that is in both is in it
+abbrev pub is_common : List ℕ → List ℕ → List ℕ → Bool
+is_common f g w =
+    let p = graph_of f in
+    let q = graph_of g in
+    let r = graph_of w in
+    is_none (file_refusal w) && (eqb r.order p.order
+    && (every r.size (λ e. is_shared r p e && is_shared r q e) && every p.size (λ e. implies (is_shared p q e) (is_shared p r e))))
+
+-- by the definitions
+common-sound : (f g w : List ℕ) → is_common f g w ≡ true → FileOf (graph_of f).order (InBoth f g) w
+common-sound f g w h =
+    let p = graph_of f in
+    let q = graph_of g in
+    let r = graph_of w in
+    let (a, t) = both (is_none (file_refusal w)) _ h in
+    let (n, u) = both (eqb r.order p.order) _ t in
+    let (within, whole) = both (every r.size (λ e. is_shared r p e && is_shared r q e)) _ u in
+    record {
+      accepted = none-sound (file_refusal w) a;
+      order = eqb-true _ _ n;
+      linked = λ u v. (
+        λ (e, l, s, t). let (i, j) = both (is_shared r p e) _ (every-at r.size _ within e l) in (((shared-linked r p u v).0 (e, l, i, s, t)).1, ((shared-linked r q u v).0 (e, l, j, s, t)).1),
+        λ i. let (e, l, j, s, t) = (shared-linked p q u v).1 i in ((shared-linked p r u v).0 (e, l, implies_true (every-at p.size _ whole e l) j, s, t)).1,
+      );
+    }
+
+-- the links of two files are so many in both and in one only, and those in both are the file
+abbrev pub are_shares : List ℕ → List ℕ → List ℕ → ℕ → ℕ → ℕ → Bool
+are_shares f g w b i j =
+    is_none (pair_refusal f g) && (eqb (shared (graph_of f) (graph_of g)) b
+    && (eqb (unshared (graph_of f) (graph_of g)) i && (eqb (unshared (graph_of g) (graph_of f)) j && is_common f g w)))
+
+-- by the definitions
+shares-sound : (f g w : List ℕ) (b i j : ℕ) → are_shares f g w b i j ≡ true → SaysShares f g w b i j
+shares-sound f g w b i j h =
+    let (a, r) = both (is_none (pair_refusal f g)) _ h in
+    let (p, s) = both (eqb (shared (graph_of f) (graph_of g)) b) _ r in
+    let (q, t) = both (eqb (unshared (graph_of f) (graph_of g)) i) _ s in
+    let (k, c) = both (eqb (unshared (graph_of g) (graph_of f)) j) _ t in
+    record { passed = none-sound (pair_refusal f g) a; both_is = eqb-true _ _ p; mine_is = eqb-true _ _ q; theirs_is = eqb-true _ _ k; file = common-sound f g w c }
+
 -- the test of a claim on a file inside A and B
 abbrev pub holds : List ℕ → Group → Group → Claim → Bool
 holds f A B (core x y S T E) = is_accepted f && (is_core (graph_of f) A B x y (members S) (members T) && is_counts (graph_of f) S T E)
@@ -467,6 +513,8 @@ holds f A B (totals asked l d) = is_totals f asked l d
 holds f A B (heads r) = is_refusal (header_refusal f) r
 holds f A B (against g p q equal) = is_against f g A B p q equal
 holds f A B (compares n₁ s₁ t₁ n₂ s₂ t₂ r) = is_refusal (equal_refusal n₁ s₁ t₁ n₂ s₂ t₂) r
+holds f A B (shares g w b i j) = are_shares f g w b i j
+holds f A B (pairs g out r) = is_refusal (common_refusal f g out) r
 
 -- a claim that passes its test holds
 holds-sound : (f : List ℕ) (A B : Group) (c : Claim) → holds f A B c ≡ true → Says f A B c
@@ -518,6 +566,8 @@ holds-sound f A B (totals asked l d) h = totals-sound f asked l d h
 holds-sound f A B (heads r) h = refusal-sound (header_refusal f) r h
 holds-sound f A B (against g p q equal) h = against-sound f g A B p q equal h
 holds-sound f A B (compares n₁ s₁ t₁ n₂ s₂ t₂ r) h = refusal-sound (equal_refusal n₁ s₁ t₁ n₂ s₂ t₂) r h
+holds-sound f A B (shares g w b i j) h = shares-sound f g w b i j h
+holds-sound f A B (pairs g out r) h = refusal-sound (common_refusal f g out) r h
 
 -- the test of every case of a table
 abbrev pub all_hold : List Case → Bool

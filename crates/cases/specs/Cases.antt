@@ -1,5 +1,5 @@
 -- 01's "Networks to try" and 02's examples as one table: each network as the bytes of its file, two groups A and B, and what is said of it
--- inside them, by the definitions; journals, as their bytes; and findings compared.
+-- inside them, by the definitions; journals, as their bytes; findings compared; and the links in both of two files.
 use Rattle.std.specs.Prelude.{ℕ, suc, Bool, true, false, ◌||◌, List, [], ◌∷◌, ◌++◌, ◌↔◌, ◌≡◌, Option, None, eqb, length, get_or, take}
 use Rattle.graph.specs.Graph.{Graph, Group, everyone, card, edges}
 use Rattle.graph.specs.Core.{CoreInside, LevelInside, LevelAcrossInside, EqualLevelInside, FindingInside}
@@ -10,8 +10,11 @@ use Rattle.network.specs.declared.Refusal.{Refusal}
 use Rattle.network.specs.File.{mark, graph_of, number_told, link_told, old_refusal, file_refusal}
 use Rattle.network.specs.Groups.{bytes_of}
 use Rattle.network.specs.Bytes.{u16, header, edge_bytes, written}
+use Rattle.network.specs.Held.{FileOf}
 use Rattle.finding.specs.Equality.{Found, Equal, equal_refusal}
 use Rattle.journal.specs.Entries.{journal_mark, header_refusal}
+use Rattle.merging.specs.Shared.{shared, unshared}
+use Rattle.merging.specs.Calls.{pair_refusal, common_refusal, InBoth}
 use Rattle.cases.specs.Journals.{journal_header, entry, SaysJournal, SaysTotals}
 
 -- 01: the two numbers that are returned for a refusal, and zeros where there is none
@@ -72,6 +75,10 @@ pub data Claim : Type 0 where
   against : (other : List ℕ) (mine theirs : Ring) (equal : Bool) → Claim
   -- the comparison of two findings, by the n of each and the tables of its groups, gives the refusal of these two numbers, or none
   compares : (n₁ : ℕ) (s₁ t₁ : List ℕ) (n₂ : ℕ) (s₂ t₂ : List ℕ) → ℕ × ℕ → Claim
+  -- of the links of this file and of another so many are in both, in this one only and in the other only, and those in both are a file
+  shares : (other common : List ℕ) (both mine theirs : ℕ) → Claim
+  -- the call on this file and another, with an output of so many bytes, gives the refusal of these two numbers, or none
+  pairs : (other : List ℕ) (out : ℕ) → ℕ × ℕ → Claim
 
 -- the counts between the listed groups: E links, and no member listed twice or beyond the network
 pub record Counts (g : Graph) (S T : List ℕ) (E : ℕ) : Type 0 where
@@ -127,8 +134,16 @@ pub record SaysAgainst (f g : List ℕ) (A B : Group) (p q : Ring) (equal : Bool
   pub theirs : SaysRing g A B q
   pub told : (equal ≡ true) ↔ Equal (found f p) (found g q)
 
--- a claim on a file inside A and B, by the definitions; A and B do not count for the harmonic finder, nor for the bytes of a file or a journal, and
--- for what is given of two findings the file does not either
+-- neither file is refused, their links are so many in both and in one only, and `common` is a file of those in both
+pub record SaysShares (f g common : List ℕ) (both mine theirs : ℕ) : Type 0 where
+  pub passed : pair_refusal f g ≡ None
+  pub both_is : shared (graph_of f) (graph_of g) ≡ both
+  pub mine_is : unshared (graph_of f) (graph_of g) ≡ mine
+  pub theirs_is : unshared (graph_of g) (graph_of f) ≡ theirs
+  pub file : FileOf (graph_of f).order (InBoth f g) common
+
+-- a claim on a file inside A and B, by the definitions; A and B do not count for the harmonic finder, nor for the bytes of a file or a journal or for
+-- the links of two files, and for what is given of two findings the file does not either
 abbrev pub Says : List ℕ → Group → Group → Claim → Type 0
 Says f A B (core x y S T E) = SaysCore f A B x y S T E
 Says f A B (level x y) = (file_refusal f ≡ None) × LevelInside (graph_of f) A B x y
@@ -144,6 +159,8 @@ Says f A B (totals asked live due) = SaysTotals f asked live due
 Says f A B (heads r) = numbers_of (header_refusal f) ≡ r
 Says f A B (against g p q equal) = SaysAgainst f g A B p q equal
 Says f A B (compares n₁ s₁ t₁ n₂ s₂ t₂ r) = numbers_of (equal_refusal n₁ s₁ t₁ n₂ s₂ t₂) ≡ r
+Says f A B (shares g common both mine theirs) = SaysShares f g common both mine theirs
+Says f A B (pairs g out r) = numbers_of (common_refusal f g out) ≡ r
 
 -- a file or a journal, the groups A and B, and one claim on it inside them
 pub record Case : Type 0 where
@@ -170,6 +187,14 @@ w_and_a_link = header 6 9 ++ edge_bytes 0 3 ++ edge_bytes 0 4 ++ edge_bytes 0 5 
 
 abbrev pub w_and_a_member : List ℕ
 w_and_a_member = header 7 8 ++ edge_bytes 0 3 ++ edge_bytes 0 4 ++ edge_bytes 1 3 ++ edge_bytes 1 4 ++ edge_bytes 2 3 ++ edge_bytes 2 4 ++ edge_bytes 4 5 ++ edge_bytes 5 5
+
+-- 02, wish 11: W's events as the vouched recorded them, without the link from 5 to itself and with one from 3 to 0; and the links that are in this and
+-- in W with a link more
+abbrev pub received : List ℕ
+received = header 6 8 ++ edge_bytes 0 3 ++ edge_bytes 0 4 ++ edge_bytes 1 3 ++ edge_bytes 1 4 ++ edge_bytes 2 3 ++ edge_bytes 2 4 ++ edge_bytes 3 0 ++ edge_bytes 4 5
+
+abbrev pub confirmed : List ℕ
+confirmed = header 6 7 ++ edge_bytes 0 3 ++ edge_bytes 0 4 ++ edge_bytes 1 3 ++ edge_bytes 1 4 ++ edge_bytes 2 3 ++ edge_bytes 2 4 ++ edge_bytes 4 5
 
 -- the ring of W, and that of W of other members
 abbrev pub w_ring : Ring
@@ -251,7 +276,7 @@ abbrev pub says_in : List ℕ → List ℕ → List ℕ → Claim → Case
 says_in f A B c = record { file = f; sources = members A; targets = members B; claim = c }
 
 -- P1 to P9, W's report and W's layers, 02's example, some of these inside A and B, the harmonic finder, zero bytes, the limits of a file, links that
--- do not ascend, journals, then findings compared
+-- do not ascend, journals, findings compared, then the links in both of two files
 unfoldable pub cases : List Case
 cases =
     -- P1
@@ -422,6 +447,25 @@ cases =
     ∷ says [] (compares 1 (1 ∷ []) (1 ∷ []) 2 (1 ∷ 2 ∷ []) (0 ∷ 1 ∷ []) (plain 11))
     -- past its own n a byte does not count, and a table is not short for the other n
     ∷ says [] (compares 1 (1 ∷ 2 ∷ []) (1 ∷ []) 2 (1 ∷ 0 ∷ 2 ∷ []) (0 ∷ 1 ∷ []) none)
+    -- given and received (02, wish 11): the links in both, which are the same with the files exchanged, and the ring in them
+    ∷ says w_and_a_link (shares received confirmed 7 2 1)
+    ∷ says received (shares w_and_a_link confirmed 7 1 2)
+    ∷ says confirmed (finding 2 3 2 (0 ∷ 1 ∷ 2 ∷ []) (3 ∷ 4 ∷ []) 6)
+    -- of a file with itself it is the file, of a link and the one the other way nothing, and of two that are empty the file without links
+    ∷ says W (shares W W 8 0 0)
+    ∷ says (header 2 1 ++ edge_bytes 0 1) (shares (header 2 1 ++ edge_bytes 1 0) (header 2 0) 0 1 1)
+    ∷ says [] (shares (header 0 0) (header 0 0) 0 0 0)
+    -- the first file's number comes before the second's, which comes before 21
+    ∷ says mixed_w (pairs (take 8 W) 0 (at 15 1))
+    ∷ says (header 5 0) (pairs mixed_w 0 (at 15 1))
+    -- n: 21, before 9, also of zero bytes
+    ∷ says W (pairs w_and_a_member 0 (plain 21))
+    ∷ says [] (pairs W 0 (plain 21))
+    -- the output is to hold the links in both, and no more
+    ∷ says w_and_a_link (pairs received 36 (plain 9))
+    ∷ says w_and_a_link (pairs received 37 none)
+    ∷ says [] (pairs [] 8 (plain 9))
+    ∷ says [] (pairs [] 9 none)
     ∷ []
 
 -- every case's claim holds

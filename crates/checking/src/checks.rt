@@ -68,7 +68,7 @@ fn is_same(file: &SoundFile, d: usize, e: usize) -> bool
 
 // An edge as one number, by which edges are compared: by source, then by target. It has 32 bits, so that many can be compared at once. This and the
 // next take the bytes, since a `ReadableFile` and a `SoundFile` are read by them.
-fn key_at(file: &[u8], edge: usize) -> u32
+pub fn key_at(file: &[u8], edge: usize) -> u32
     requires { Holds file.now edge }
     ensures value { result ≡ key_of (graph_of file.now) edge }
     ensures target_fits { (graph_of file.now).target edge < 65536 }

@@ -4,5 +4,5 @@
 mod checks;
 mod groups;
 
-pub use checks::{accept, check_file, check_old};
+pub use checks::{accept, check_file, check_old, key_at};
 pub use groups::are_groups;

@@ -8,5 +8,6 @@ pub use finding::{equal_findings, finding};
 pub use harmonic::harmonic;
 pub use journal::journal;
 pub use layering::layers;
+pub use merging::{CommonTotals, common};
 pub use network::{Extent, Refusal, Side, Totals};
 pub use searching::Ring;

@@ -6,6 +6,7 @@ use Rattle.network.specs.declared.Refusal.{Refusal}
 use Rattle.network.specs.declared.Extent.{Extent}
 use Rattle.network.specs.declared.Totals.{Totals}
 use Rattle.searching.specs.declared.Ring.{Ring}
+use Rattle.merging.specs.declared.CommonTotals.{CommonTotals}
 use Rattle.network.specs.File.{number_of, link_of, number_told}
 use Rattle.network.specs.Refusals.{row_refusal}
 use Rattle.cogsplice_c.specs.declared.CheckNumbers.{CheckNumbers}
@@ -17,6 +18,7 @@ use Rattle.cogsplice_c.specs.declared.LevelNumbers.{LevelNumbers}
 use Rattle.cogsplice_c.specs.declared.FindingNumbers.{FindingNumbers}
 use Rattle.cogsplice_c.specs.declared.LayersNumbers.{LayersNumbers}
 use Rattle.cogsplice_c.specs.declared.EqualNumbers.{EqualNumbers}
+use Rattle.cogsplice_c.specs.declared.CommonNumbers.{CommonNumbers}
 
 -- the struct holds the numbers of an answer that keeps the promise of the call
 pub record Told {Answer Struct : Type 0} (call : Answer → Type 0) (numbers : Answer → Struct) (given : Struct) : Type 0 where
@@ -62,10 +64,15 @@ abbrev pub layers_numbers : Result ℕ Refusal → LayersNumbers
 layers_numbers (Ok k) = record { refusal = 0; link = 0; layers = k }
 layers_numbers (Err r) = record { refusal = number_of r; link = unwrap_or (link_of r) 0; layers = 0 }
 
--- and of the comparison of two findings, whose refusals name no link
+-- of the comparison of two findings, whose refusals name no link,
 abbrev pub equal_numbers : Result Bool Refusal → EqualNumbers
 equal_numbers (Ok b) = record { refusal = 0; equal = b }
 equal_numbers (Err r) = record { refusal = number_of r; equal = false }
+
+-- and of the links in both of two files
+abbrev pub common_numbers : Result CommonTotals Refusal → CommonNumbers
+common_numbers (Ok c) = record { refusal = 0; link = 0; both = c.both; first_only = c.first_only; second_only = c.second_only }
+common_numbers (Err r) = record { refusal = number_of r; link = unwrap_or (link_of r) 0; both = 0; first_only = 0; second_only = 0 }
 
 -- the side that a C program names
 abbrev pub side_of : Bool → Side

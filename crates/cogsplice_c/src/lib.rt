@@ -16,7 +16,8 @@ ghost use Rattle.finding.specs.Equality.{EqualCall};
 ghost use Rattle.layering.specs.Calls.{LayersCall};
 ghost use Rattle.harmonic.specs.Calls.{HarmonicCall};
 ghost use Rattle.journal.specs.Calls.{JournalCall};
-ghost use Rattle.cogsplice_c.specs.Told.{Told, PartOf, side_of, check_numbers, totals_numbers, write_numbers, index_numbers, level_numbers, finding_numbers, layers_numbers, equal_numbers};
+ghost use Rattle.merging.specs.Calls.{CommonCall};
+ghost use Rattle.cogsplice_c.specs.Told.{Told, PartOf, side_of, check_numbers, totals_numbers, write_numbers, index_numbers, level_numbers, finding_numbers, layers_numbers, equal_numbers, common_numbers};
 
 use crate::numbers::number_told;
 use crate::rows::part_of;
@@ -107,6 +108,17 @@ pub struct LayersNumbers {
 pub struct EqualNumbers {
     pub refusal: u16,
     pub equal: bool,
+}
+
+// How many links are in both files, and in one of them only.
+#[repr(C)]
+#[derive(Clone, Copy, Debug, PartialEq, Eq)]
+pub struct CommonNumbers {
+    pub refusal: u16,
+    pub link: u16,
+    pub both: usize,
+    pub first_only: usize,
+    pub second_only: usize,
 }
 
 #[unsafe(no_mangle)]
@@ -337,4 +349,11 @@ pub extern "C" fn cogsplice_equal_findings(
         result }
 {
     cogsplice::equal_findings(x1, y1, n1, s1, t1, x2, y2, n2, s2, t2).into()
+}
+
+#[unsafe(no_mangle)]
+pub extern "C" fn cogsplice_common(first: &[u8], second: &[u8], out: &mut [u8]) -> CommonNumbers
+    ensures { Told (CommonCall first.now second.now out.old out.new) common_numbers result }
+{
+    cogsplice::common(first, second, out).into()
 }

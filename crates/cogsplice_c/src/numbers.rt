@@ -1,14 +1,14 @@
 // 01's numbers of each answer.
 ghost use Rattle.std.specs.Prelude.{◌≡◌};
 ghost use Rattle.network.specs.File.{number_told};
-ghost use Rattle.cogsplice_c.specs.Told.{check_numbers, totals_numbers, write_numbers, index_numbers, level_numbers, finding_numbers, layers_numbers, equal_numbers};
+ghost use Rattle.cogsplice_c.specs.Told.{check_numbers, totals_numbers, write_numbers, index_numbers, level_numbers, finding_numbers, layers_numbers, equal_numbers, common_numbers};
 ghost use Rattle.cogsplice_c.specs.Parts.{parts};
 
 use crate::{
-    CheckNumbers, EqualNumbers, FindingNumbers, IndexNumbers, LayersNumbers, LevelNumbers,
-    TotalsNumbers, WriteNumbers,
+    CheckNumbers, CommonNumbers, EqualNumbers, FindingNumbers, IndexNumbers, LayersNumbers,
+    LevelNumbers, TotalsNumbers, WriteNumbers,
 };
-use cogsplice::{Extent, Refusal, Ring, Totals};
+use cogsplice::{CommonTotals, Extent, Refusal, Ring, Totals};
 
 const NO_TOTALS: Totals = Totals {
     edges: 0,
@@ -21,6 +21,12 @@ const NO_RING: Ring = Ring {
     y: 0,
     equal: 0,
     totals: NO_TOTALS,
+};
+
+const NOTHING_IN_COMMON: CommonTotals = CommonTotals {
+    both: 0,
+    first_only: 0,
+    second_only: 0,
 };
 
 // The number of a refusal, or 0.
@@ -140,5 +146,20 @@ impl From<Result<bool, Refusal>> for EqualNumbers {
     fn from(answer: Result<bool, Refusal>) -> EqualNumbers {
         let (refusal, _, equal) = parts(answer, false);
         EqualNumbers { refusal, equal }
+    }
+}
+
+impl From<Result<CommonTotals, Refusal>> for CommonNumbers {
+    ghost from_gives = { λ a n. n ≡ common_numbers a };
+
+    fn from(answer: Result<CommonTotals, Refusal>) -> CommonNumbers {
+        let (refusal, link, totals) = parts(answer, NOTHING_IN_COMMON);
+        CommonNumbers {
+            refusal,
+            link,
+            both: totals.both,
+            first_only: totals.first_only,
+            second_only: totals.second_only,
+        }
     }
 }

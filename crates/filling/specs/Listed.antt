@@ -5,14 +5,6 @@ use Rattle.graph.specs.Graph.{Graph}
 use Rattle.network.specs.Refusals.{work_length}
 use Rattle.peeling.specs.Peeling.{Tabled}
 
--- each entry of the list is the number of an edge
-abbrev pub Lists : Graph → List ℕ → Type 0
-Lists g l = (i : ℕ) → i < length l → get_or l i 0 < g.size
-
--- the edges of the list, in its order
-abbrev pub listed : Graph → List ℕ → Graph
-listed g l = record { order = g.order; size = length l; source = λ i. g.source (get_or l i 0); target = λ i. g.target (get_or l i 0); weight = λ i. 1 }
-
 -- how often edge e stands among the first k entries of a list
 abbrev pub times : List ℕ → ℕ → ℕ → ℕ
 times l k e = sum (λ i. if (eqb (get_or l i 0) e) 1) k

@@ -2,7 +2,7 @@
 ghost use Rattle.std.specs.Prelude.{◌≤◌, length};
 ghost use Rattle.network.specs.File.{most_links, graph_of};
 ghost use Rattle.network.specs.Accepted.{Sound};
-ghost use Rattle.filling.specs.Listed.{Lists};
+ghost use Rattle.graph.specs.Listed.{Lists};
 
 // 02, wish 5: the links of a sound file from A to B, two tables that have a byte for each member.
 #[derive(Clone, Copy, Debug, PartialEq, Eq)]

@@ -22,6 +22,7 @@ pub mod Inside
 pub mod Groups
 pub mod Linkage
 pub mod Links
+pub mod Listed
 pub mod Monotone
 pub mod Cover
 pub mod Stars

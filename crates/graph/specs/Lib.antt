@@ -8,6 +8,7 @@ pub mod Harmonic
 pub mod Within
 pub mod Order
 pub mod Shapes
+pub mod Listed
 pub mod Sorting
 pub mod Search
 pub mod Linkage

@@ -5,6 +5,5 @@ pub mod Places
 pub mod Turning
 pub mod Headers
 pub mod Running
-pub mod Findings
 pub mod Files
 pub mod Named

@@ -1,12 +1,9 @@
 -- What the journal call promises (02, wishes 8 and 9).
-use Rattle.std.specs.Prelude.{ℕ, true, cond, ◌||◌, List, [], ◌∷◌, ◌++◌, ◌↔◌, ◌≡◌, Option, None, Some, Result, ltb, length, drop}
-use Rattle.graph.specs.Graph.{Graph, Group, Linked}
-use Rattle.graph.specs.Core.{EqualLevelInside}
-use Rattle.graph.specs.Quiet.{OutcomeInside}
+use Rattle.std.specs.Prelude.{ℕ, true, cond, ◌||◌, List, [], ◌∷◌, ◌++◌, ◌≡◌, Option, None, Some, Result, ltb, length, drop}
 use Rattle.network.specs.declared.Refusal.{Refusal}
 use Rattle.network.specs.declared.Refusal.TheVariants.{Table}
-use Rattle.network.specs.File.{most_links, link_at, graph_of, or_else, file_refusal}
-use Rattle.network.specs.Groups.{totals}
+use Rattle.network.specs.File.{most_links, link_at, or_else}
+use Rattle.network.specs.Held.{FileWritten}
 use Rattle.network.specs.Calls.{Call}
 use Rattle.linkset.specs.Links.{Links}
 use Rattle.journal.specs.Entries.{members, entries, header_refusal}
@@ -29,28 +26,14 @@ work_entries = 81920
 unfoldable pub journal_refusal : List ℕ → ℕ → ℕ → ℕ → ℕ → Option Refusal
 journal_refusal j asked o r w = or_else (header_refusal j) (cond (ltb o out_length || ltb r (count_of j asked) || ltb w work_entries) (Some Table) None)
 
--- a file of a set of links among n members: it is accepted, and so ordered, and its links are those of the set
-pub record FileOf (n : ℕ) (S : Links) (f : List ℕ) : Type 0 where
-  pub accepted : file_refusal f ≡ None
-  pub order : (graph_of f).order ≡ n
-  pub linked : (u v : ℕ) → Linked (graph_of f) u v ↔ (S u v ≡ true)
+-- a set of links, as what a file holds
+abbrev pub In : Links → ℕ → ℕ → Type 0
+In S u v = S u v ≡ true
 
--- inside any A and B two networks have the same finding: x, y, S and T, the equal level, E, |S| and |T|
-pub record SameFinding (g h : Graph) : Type 0 where
-  pub outcome : (A B : Group) (x y : ℕ) (S T : Group) → OutcomeInside g A B x y S T ↔ OutcomeInside h A B x y S T
-  pub equal : (A B : Group) (k : ℕ) → EqualLevelInside g A B k ↔ EqualLevelInside h A B k
-  pub counted : (S T : Group) → totals g S T ≡ totals h S T
-
--- the file in the first bytes of the output is not empty, and is a file of the set S; a finding in it is that of every file of S; m is its m, and
--- the number of links in S; and the later bytes are as they were
+-- a file of the set S in the first bytes of the output; m, which is its m, is the number of links in S
 pub record SetWritten (n : ℕ) (S : Links) (out out' : List ℕ) (m : ℕ) : Type 0 where
-  pub written : List ℕ
-  pub front : out' ≡ written ++ drop (link_at m) out
-  pub long : length written ≡ link_at m
-  pub file : FileOf n S written
-  pub size : m ≡ (graph_of written).size
+  pub file : FileWritten n (In S) out out' m
   pub live : m ≡ live n S
-  pub finding : (f : List ℕ) → FileOf n S f → SameFinding (graph_of written) (graph_of f)
 
 -- the links present after the entries followed are written, the numbers of these stand in their table, and what lies past both is unchanged; and
 -- whatever the entries were, everyone still finds the places that 02 promises

@@ -1,8 +1,7 @@
--- The file of a list of links.
-use Rattle.std.specs.Prelude.{ℕ, List, ◌++◌, length}
-use Rattle.graph.specs.Range.{flat}
+-- A list of links, as a network.
+use Rattle.std.specs.Prelude.{ℕ, List, length}
 use Rattle.graph.specs.Graph.{Graph}
-use Rattle.network.specs.Bytes.{header, edge_bytes}
+use Rattle.network.specs.Bytes.{edge_bytes}
 use Rattle.linkset.specs.Tables.{Pairs, source_at, target_at}
 
 -- the links, as a graph of n vertices
@@ -12,7 +11,3 @@ table_graph n l = record { order = n; size = length l; source = source_at l; tar
 -- the bytes of link e
 abbrev pub link_bytes : Pairs → ℕ → List ℕ
 link_bytes l e = edge_bytes (source_at l e) (target_at l e)
-
--- the header and the links as they stand
-abbrev pub listed : ℕ → Pairs → List ℕ
-listed n l = header n (length l) ++ flat (link_bytes l) (length l)

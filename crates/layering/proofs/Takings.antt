@@ -20,7 +20,8 @@ use Rattle.graph.proofs.Tests.{if_some}
 use Rattle.graph.proofs.Sums.{term-le-sum}
 use Rattle.graph.proofs.Masks.{closed-weighing, finding-weights}
 use Rattle.graph.proofs.Layered.{layered-next}
-use Rattle.filling.specs.Listed.{Lists, only, times, ListOf}
+use Rattle.graph.specs.Listed.{Lists}
+use Rattle.filling.specs.Listed.{only, times, ListOf}
 use Rattle.filling.proofs.Times.{times-entry, times-some}
 use Rattle.layering.specs.Calls.{layer_in}
 use Rattle.layering.specs.Takings.{Making, TakenFrom, Sifted}

@@ -6,7 +6,7 @@ ghost use Rattle.graph.specs.Within.{within};
 ghost use Rattle.network.specs.File.{most_links, graph_of};
 ghost use Rattle.network.specs.Groups.{group_of};
 ghost use Rattle.network.specs.Refusals.{work_length};
-ghost use Rattle.filling.specs.Listed.{Lists};
+ghost use Rattle.graph.specs.Listed.{Lists};
 ghost use Rattle.layering.specs.Calls.{layer_in};
 ghost use Rattle.layering.specs.Takings.{TakenFrom, Sifted, OneMore};
 

@@ -19,7 +19,7 @@ use Rattle.graph.proofs.Ascending.{ascending-simple}
 use Rattle.std.specs.Prelude.{Option, None, Some}
 use Rattle.std.proofs.lemmas.Option.{none-some}
 use Rattle.network.specs.declared.Refusal.{Refusal}
-use Rattle.network.specs.declared.Refusal.TheVariants.{Short, Mark, Version, Members, Links, Length, End, Repeat, Table, Member, Group, Zero, Row, Order}
+use Rattle.network.specs.declared.Refusal.TheVariants.{Short, Mark, Version, Members, Links, Length, End, Repeat, Table, Member, Group, Zero, Row, Order, Mismatch}
 use Rattle.network.specs.File.{link_at, graph_of, outside, same, repeat, descent, number_of, number_told, or_else, old_refusal, file_refusal}
 use Rattle.network.specs.Accepted.{Distinct, Accepted, Holds}
 use Rattle.network.proofs.Descents.{descent-none}
@@ -79,6 +79,7 @@ number-some Group h = omega (arith, h)
 number-some Zero h = omega (arith, h)
 number-some Row h = omega (arith, h)
 number-some (Order e) h = omega (arith, h)
+number-some Mismatch h = omega (arith, h)
 
 -- so that what is told by 0 is none
 pub record Proper (r : Option Refusal) : Type 0 where

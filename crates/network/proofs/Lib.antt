@@ -5,4 +5,5 @@ pub mod Answers
 pub mod Groups
 pub mod Puts
 pub mod Written
+pub mod Held
 pub mod Examples

@@ -17,16 +17,16 @@ use Rattle.graph.proofs.Ranges.{length-flat, get_or-flat, permutes-onto}
 use Rattle.graph.proofs.Order.{edge_at-lt, edge_at-permutes, edge_at-ascending, sum-permuted}
 use Rattle.graph.proofs.Ascending.{precedes-ascends}
 use Rattle.network.specs.File.{most_members, most_links, u16_at, link_at, graph_of}
-use Rattle.network.specs.Bytes.{header, edge_bytes, written}
+use Rattle.network.specs.Bytes.{header, edge_bytes, ranked, written}
 use Rattle.network.specs.Accepted.{Accepted}
 
--- the bytes of the edge of rank i
-abbrev ranked : Graph → ℕ → List ℕ
-ranked g i = edge_bytes (g.source (edge_at g i)) (g.target (edge_at g i))
+-- the bytes of edge e
+abbrev bytes_at : Graph → ℕ → List ℕ
+bytes_at g e = edge_bytes (g.source e) (g.target e)
 
 -- the written file has the length that is asked for
 pub length-written : (g : Graph) → length (written g) ≡ link_at g.size
-length-written g = omega (arith, length-flat (ranked g) 4 g.size (λ i l. refl))
+length-written g = omega (arith, length-flat (bytes_at (ranked g)) 4 g.size (λ i l. refl))
 
 -- it has the order of the graph
 pub written-order : (g : Graph) → (graph_of (written g)).order ≡ g.order
@@ -37,14 +37,14 @@ pub written-size : (g : Graph) → (graph_of (written g)).size ≡ g.size
 written-size g = mod-add-div g.size 256
 
 -- byte j of its link i is that of the edge of rank i
-written_byte : (g : Graph) (i j : ℕ) → i < g.size → j < 4 → get_or (written g) (9 + (4 * i + j)) 0 ≡ get_or (ranked g i) j 0
+written_byte : (g : Graph) (i j : ℕ) → i < g.size → j < 4 → get_or (written g) (9 + (4 * i + j)) 0 ≡ get_or (bytes_at (ranked g) i) j 0
 written_byte g i j l h =
-    get_or-append-add (header g.order g.size) (flat (ranked g) g.size) (4 * i + j) 0 ∙ get_or-flat (ranked g) 4 g.size i j (λ k m. refl) l h
+    get_or-append-add (header g.order g.size) (flat (bytes_at (ranked g)) g.size) (4 * i + j) 0 ∙ get_or-flat (bytes_at (ranked g)) 4 g.size i j (λ k m. refl) l h
 
 -- and so the number at byte j
-written-number : (g : Graph) (i j p : ℕ) → p ≡ 9 + (4 * i + j) → i < g.size → j + 1 < 4 → u16_at (written g) p ≡ u16_at (ranked g i) j
+written-number : (g : Graph) (i j p : ℕ) → p ≡ 9 + (4 * i + j) → i < g.size → j + 1 < 4 → u16_at (written g) p ≡ u16_at (bytes_at (ranked g) i) j
 written-number g i j p e l h =
-    rw (e, written_byte g i j l (omega arith), next) (ap (λ k. get_or (ranked g i) j 0 + 256 * k) (written_byte g i (j + 1) l h))
+    rw (e, written_byte g i j l (omega arith), next) (ap (λ k. get_or (bytes_at (ranked g) i) j 0 + 256 * k) (written_byte g i (j + 1) l h))
   where
     next : 9 + (4 * i + j) + 1 ≡ 9 + (4 * i + (j + 1))
     next = omega arith

@@ -17,10 +17,18 @@ header n m = mark ++ u16 1 ++ u16 n ++ u16 m
 abbrev pub edge_bytes : ℕ → ℕ → List ℕ
 edge_bytes u v = u16 u ++ u16 v
 
--- the links by rank
+-- the links of a network, one after the other
 abbrev pub edges_bytes : Graph → List ℕ
-edges_bytes g = flat (λ i. edge_bytes (g.source (edge_at g i)) (g.target (edge_at g i))) g.size
+edges_bytes g = flat (λ e. edge_bytes (g.source e) (g.target e)) g.size
+
+-- the file of a network with its links as they stand
+abbrev pub standing : Graph → List ℕ
+standing g = header g.order g.size ++ edges_bytes g
+
+-- the network with its links by rank: ascending by voucher, then vouched
+abbrev pub ranked : Graph → Graph
+ranked g = record { order = g.order; size = g.size; source = λ i. g.source (edge_at g i); target = λ i. g.target (edge_at g i); weight = λ i. g.weight (edge_at g i) }
 
 -- 01: the file with its links ascending by voucher, then vouched
 abbrev pub written : Graph → List ℕ
-written g = header g.order g.size ++ edges_bytes g
+written g = standing (ranked g)

@@ -4,7 +4,7 @@ use Rattle.graph.specs.Range.{first}
 use Rattle.graph.specs.Graph.{Graph}
 use Rattle.graph.specs.Order.{ascends}
 use Rattle.network.specs.declared.Refusal.{Refusal}
-use Rattle.network.specs.declared.Refusal.TheVariants.{Short, Mark, Version, Members, Links, Length, End, Repeat, Table, Member, Group, Zero, Row, Order}
+use Rattle.network.specs.declared.Refusal.TheVariants.{Short, Mark, Version, Members, Links, Length, End, Repeat, Table, Member, Group, Zero, Row, Order, Mismatch}
 
 -- 01: a network has at most so many members
 abbrev pub most_members : ℕ
@@ -73,6 +73,7 @@ number_of Group = 11
 number_of Zero = 12
 number_of Row = 14
 number_of (Order e) = 15
+number_of Mismatch = 21
 
 -- 01, 02: the link's number that is returned with it
 abbrev pub link_of : Refusal → Option ℕ
@@ -90,6 +91,7 @@ link_of Group = None
 link_of Zero = None
 link_of Row = None
 link_of (Order e) = Some e
+link_of Mismatch = None
 
 -- 01: the number of a refusal, and 0 of none
 abbrev pub number_told : Option Refusal → ℕ

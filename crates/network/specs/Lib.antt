@@ -2,6 +2,7 @@ pub mod File
 pub mod Small
 pub mod Groups
 pub mod Bytes
+pub mod Held
 pub mod Refusals
 pub mod Calls
 pub mod Sides

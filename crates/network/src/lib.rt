@@ -40,6 +40,8 @@ pub enum Refusal {
     Row,
     // a link comes before the one preceding it
     Order { link: u16 },
+    // the n of two files differ
+    Mismatch,
 }
 
 // n and m, which are small: so every entry of the work table fits.

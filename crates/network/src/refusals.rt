@@ -24,6 +24,7 @@ impl Refusal {
             Refusal::Zero => 12,
             Refusal::Row => 14,
             Refusal::Order { .. } => 15,
+            Refusal::Mismatch => 21,
         }
     }
 

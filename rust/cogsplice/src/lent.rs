@@ -95,6 +95,17 @@ pub struct EqualNumbers {
     pub equal: bool,
 }
 
+/// How many links are in both files, in the first only and in the second only.
+#[repr(C)]
+#[derive(Clone, Copy, Debug, PartialEq, Eq)]
+pub struct CommonNumbers {
+    pub refusal: u16,
+    pub link: u16,
+    pub both: usize,
+    pub first_only: usize,
+    pub second_only: usize,
+}
+
 // A table crosses as a pointer and a length.
 #[rustfmt::skip]
 extern "C" {
@@ -149,6 +160,9 @@ extern "C" {
         x1: usize, y1: usize, n1: usize, s1: *const u8, s1_length: usize, t1: *const u8, t1_length: usize,
         x2: usize, y2: usize, n2: usize, s2: *const u8, s2_length: usize, t2: *const u8, t2_length: usize,
     ) -> EqualNumbers;
+    fn cogsplice_common(
+        first: *const u8, first_length: usize, second: *const u8, second_length: usize, out: *mut u8, out_length: usize,
+    ) -> CommonNumbers;
     fn cogsplice_journal(
         journal: *const u8, journal_length: usize, asked: usize,
         out: *mut u8, out_length: usize, numbers: *mut u8, numbers_length: usize, work: *mut u16, work_length: usize,
@@ -309,6 +323,19 @@ pub fn equal_findings(
         cogsplice_equal_findings(
             x1, y1, n1, s1.as_ptr(), s1.len(), t1.as_ptr(), t1.len(),
             x2, y2, n2, s2.as_ptr(), s2.len(), t2.as_ptr(), t2.len(),
+        )
+    }
+}
+
+/// Writes the file of the links that are in both of two files, ascending by voucher, then vouched, to `out`, which needs the
+/// [`file_length`](crate::file_length) of so many. Refused by what refuses the first file, then by what refuses the second, then by 21 where
+/// the two n differ, and then by 9. A link that a refusal names is one of the file that is refused.
+#[rustfmt::skip]
+pub fn common(first: &[u8], second: &[u8], out: &mut [u8]) -> CommonNumbers {
+    unsafe {
+        cogsplice_common(
+            first.as_ptr(), first.len(), second.as_ptr(), second.len(),
+            out.as_mut_ptr(), out.len(),
         )
     }
 }

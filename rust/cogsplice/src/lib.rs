@@ -2,10 +2,10 @@
 //!
 //! A [`Network`] holds an accepted network file, whose links ascend; [`Network::read_old`] takes stored files with links in any order too.
 //! Its calls own the tables that the library works on, and answer with groups as vectors of members, or with a typed [`Refusal`].
-//! [`Network::within`] has cores, levels, the finding and the layers among some members only. A [`Journal`] is a month entry by entry, and
-//! gives the network after so many of them: so it is seen when a ring formed. That the answers are right is proved in the library itself,
-//! which is linked as a static library; this crate only hands numbers and tables across. [`lent`] has the calls as they are, over tables of
-//! the caller's.
+//! [`Network::within`] has cores, levels, the finding and the layers among some members only, [`Network::common`] the links that are in
+//! another network too. A [`Journal`] is a month entry by entry, and gives the network after so many of them: so it is seen when a ring
+//! formed. That the answers are right is proved in the library itself, which is linked as a static library; this crate only hands numbers
+//! and tables across. [`lent`] has the calls as they are, over tables of the caller's.
 //!
 //! ```
 //! use cogsplice::Network;
@@ -23,6 +23,7 @@
 //! # Ok(())
 //! # }
 //! ```
+mod common;
 mod journal;
 mod layers;
 pub mod lent;
@@ -30,6 +31,7 @@ mod network;
 mod refusal;
 mod within;
 
+pub use common::Common;
 pub use journal::{After, Journal, Name};
 pub use layers::Layers;
 pub use network::{Finding, Index, Network, Pair, Totals};

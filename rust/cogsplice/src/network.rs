@@ -1,4 +1,4 @@
-use crate::{file_length, lent, work_length, Layers, Refusal, Side, Within};
+use crate::{file_length, lent, work_length, Common, Layers, Refusal, Side, Within};
 use std::fmt;
 
 /// A network file that was accepted.
@@ -448,6 +448,32 @@ impl Network {
     /// ```
     pub fn within(&self, a: &[usize], b: &[usize]) -> Result<Within<'_>, Refusal> {
         Ok(Within::new(self, self.group(a)?, self.group(b)?))
+    }
+
+    /// The links that are in this network, the first, and in another, the second, the same voucher and the same vouched; and how many links
+    /// are in both, in the first only and in the second only. Refused by 21 where the two n differ.
+    ///
+    /// With the two exchanged the same links are in both, and the other two numbers are exchanged. A network has all its links in common
+    /// with itself.
+    ///
+    /// ```
+    /// use cogsplice::{Network, Refusal};
+    /// # fn main() -> Result<(), Refusal> {
+    /// // Vouchers and vouched keep records of the same events: 0>4 is in the first only, 2>4 and 4>2 in the second only.
+    /// let given = Network::from_links(5, &[(0, 2), (0, 3), (0, 4), (1, 2), (1, 3)])?;
+    /// let received = Network::from_links(5, &[(0, 2), (0, 3), (1, 2), (1, 3), (2, 4), (4, 2)])?;
+    /// let common = given.common(&received)?;
+    /// assert_eq!((common.both, common.first_only, common.second_only), (4, 1, 2));
+    /// // The ring that both bear out.
+    /// let finding = common.network.finding();
+    /// assert_eq!((finding.pair.s, finding.pair.t), (vec![0, 1], vec![2, 3]));
+    /// assert_eq!(given.common(&given)?.network, given);
+    /// assert_eq!(given.common(&Network::from_links(4, &[])?), Err(Refusal::Mismatch));
+    /// # Ok(())
+    /// # }
+    /// ```
+    pub fn common(&self, other: &Network) -> Result<Common, Refusal> {
+        Common::of(self, other)
     }
 
     /// With everyone in both groups the whole network is searched.

@@ -1,9 +1,9 @@
 use std::error::Error;
 use std::fmt;
 
-/// Why a call was refused, in the order of the tests: where more than one number applies the first of 1 to 8, 15, 9 to 12 and 14 is given.
-/// Of 7, 8 and 15, which name a link, each is tested over all links before the next. 13 is retired: it is never given again, nor used for
-/// something else.
+/// Why a call was refused, in the order of the tests: where more than one number applies the first of 1 to 8, 15, 21, 9 to 12 and 14 is
+/// given. Of 7, 8 and 15, which name a link, each is tested over all links before the next, and of two files 1 to 8 and 15 all on the first
+/// before any on the second. 13 is retired: it is never given again, nor used for something else.
 ///
 /// ```
 /// use cogsplice::{Network, Refusal};
@@ -33,6 +33,8 @@ pub enum Refusal {
     Repeat { link: usize },
     /// 15: a link comes before the one preceding it, by voucher, then vouched; the first such link.
     Order { link: usize },
+    /// 21: two files have different numbers of members.
+    Mismatch,
     /// 9: a lent table is shorter than the call needs.
     Table,
     /// 10: the member of a row, or of a group, is not below n.
@@ -48,11 +50,11 @@ pub enum Refusal {
 
 impl Refusal {
     /// All refusals in the order of the tests, those that name a link with this one.
-    fn all(link: usize) -> [Refusal; 14] {
+    fn all(link: usize) -> [Refusal; 15] {
         use Refusal::*;
         let (end, repeat, order) = (End { link }, Repeat { link }, Order { link });
         [
-            Short, Mark, Version, Members, Links, Length, end, repeat, order, Table, Member, Group, Zero, Row,
+            Short, Mark, Version, Members, Links, Length, end, repeat, order, Mismatch, Table, Member, Group, Zero, Row,
         ]
     }
 
@@ -77,6 +79,7 @@ impl Refusal {
             Refusal::End { link } => (7, Some(link), "a link names a member not below n"),
             Refusal::Repeat { link } => (8, Some(link), "a link repeats an earlier one"),
             Refusal::Order { link } => (15, Some(link), "a link comes before the one preceding it"),
+            Refusal::Mismatch => (21, None, "the two files have different numbers of members"),
             Refusal::Table => (9, None, "a table is too short"),
             Refusal::Member => (10, None, "a member is not below n"),
             Refusal::Group => (11, None, "a byte of a group is neither 0 nor 1"),
@@ -85,7 +88,7 @@ impl Refusal {
         }
     }
 
-    /// The refusal's number, 1 to 15 without 13.
+    /// The refusal's number, 1 to 15 without 13, or 21.
     pub fn number(self) -> u16 {
         self.told().0
     }

@@ -50,6 +50,16 @@ fn structs_lie_as_in_c() {
         ),
         lines!("layers_numbers", LayersNumbers { refusal, link, layers }),
         lines!("equal_numbers", EqualNumbers { refusal, equal }),
+        lines!(
+            "common_numbers",
+            CommonNumbers {
+                refusal,
+                link,
+                both,
+                first_only,
+                second_only
+            }
+        ),
     ]
     .concat();
     let wanted = include_str!("../../../tests/layout.def").lines();

@@ -1,11 +1,12 @@
 //! Refusals, and the answers of refused calls.
 use cogsplice::lent::{
-    CheckNumbers, EqualNumbers, FindingNumbers, IndexNumbers, LayersNumbers, LevelNumbers,
-    TotalsNumbers, WriteNumbers,
+    CheckNumbers, CommonNumbers, EqualNumbers, FindingNumbers, IndexNumbers, LayersNumbers,
+    LevelNumbers, TotalsNumbers, WriteNumbers,
 };
 
-/// The order in which refusals are tested: the first that applies is given.
-pub const ORDER: [u16; 14] = [1, 2, 3, 4, 5, 6, 7, 8, 15, 9, 10, 11, 12, 14];
+/// The order in which refusals are tested: the first that applies is given. Of two files every number on the first comes before any on the
+/// second.
+pub const ORDER: [u16; 15] = [1, 2, 3, 4, 5, 6, 7, 8, 15, 21, 9, 10, 11, 12, 14];
 
 /// The number that is given where these apply, or 0 where none does.
 pub fn first_of(applying: &[u16]) -> u16 {
@@ -142,6 +143,18 @@ impl Refused for EqualNumbers {
         EqualNumbers {
             refusal: number,
             equal: false,
+        }
+    }
+}
+
+impl Refused for CommonNumbers {
+    fn refused(Refusal { number, link }: Refusal) -> Self {
+        CommonNumbers {
+            refusal: number,
+            link,
+            both: 0,
+            first_only: 0,
+            second_only: 0,
         }
     }
 }

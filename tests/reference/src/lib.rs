@@ -3,6 +3,7 @@
 //! The paper that fixes terms, format and numbers is called 01. Answers have the library's types, so that they can be compared; the
 //! library itself is not called here. A work table's contents mean nothing, so only its length is handed over.
 mod answers;
+mod common;
 mod cores;
 mod equal;
 mod file;
@@ -14,6 +15,7 @@ mod layers;
 mod report;
 
 pub use answers::{first_of, Refusal};
+pub use common::common;
 pub use cores::{core, equal_level, finding, level, level_across, work_length};
 pub use equal::{equal_findings, Found};
 pub use file::{check, file_length, order, read, read_any_order, write, LINKS, MEMBERS};

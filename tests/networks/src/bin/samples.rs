@@ -107,6 +107,28 @@ fn other_members() -> Vec<u8> {
     in_order(n, links.collect())
 }
 
+/// A month of 24 members as the vouchers recorded it, as the vouched did, and the links in both records. In both each of 4 members vouches
+/// for each of 4. By the first record two more vouch for these four, by the second the four vouch for two more. Of the random links 10 are in
+/// both, 3 in the first only and 2 in the second only.
+fn two_records() -> [Vec<u8>; 3] {
+    let n = 24;
+    let (vouchers, vouched) = ([1, 6, 13, 20], [3, 9, 16, 22]);
+    let mut both = all_links(&vouchers, &vouched);
+    let first = all_links(&[4, 11], &vouched);
+    let second = all_links(&vouchers, &[7, 18]);
+    let mut links = [&both[..], &first, &second].concat();
+    let sure = links.len();
+    scatter(&mut Draw::new(2026), n, sure + 15, &mut links);
+    let random = &links[sure..];
+    both.extend(&random[..10]);
+    let record = |own: &[Link], random: &[Link]| in_order(n, [&both[..], own, random].concat());
+    [
+        record(&first, &random[10..13]),
+        record(&second, &random[13..]),
+        record(&[], &[]),
+    ]
+}
+
 /// Network W with links 2 and 3 exchanged.
 fn exchanged() -> Vec<u8> {
     let mut network = Network::w();
@@ -141,6 +163,10 @@ fn main() {
     write("two-rings", &in_order);
     write("old-order", &shuffled);
     write_as("ordered", "old-order", &in_order);
+    let [given, received, confirmed] = two_records();
+    write("given", &given);
+    write("received", &received);
+    write("confirmed", &confirmed);
     write("quiet", &network(5, &[]));
     write("empty", &network(0, &[]));
     write("nothing", &[]);

@@ -12,9 +12,14 @@ pub struct Tally {
     pub comparisons: u64,
     pub differences: u64,
     /// For each refusal number, how many answers had it; for 0, how many were accepted.
-    pub refusals: [u64; 16],
+    pub refusals: [u64; 22],
     /// For each number of a journal's entry, how many followed entries had it; for 0, how many were accepted.
     pub entries: [u64; 21],
+}
+
+/// Bytes in hexadecimal.
+pub fn hex(bytes: &[u8]) -> String {
+    bytes.iter().map(|byte| format!("{byte:02x}")).collect()
 }
 
 impl Tally {
@@ -107,8 +112,7 @@ impl<'a> Case<'a> {
             println!("  call {}", call());
             println!("  expected {expected:?}");
             println!("  library  {library:?}");
-            let hex: String = self.file.iter().map(|byte| format!("{byte:02x}")).collect();
-            println!("  file {hex}");
+            println!("  file {}", hex(&self.file));
         }
     }
 }

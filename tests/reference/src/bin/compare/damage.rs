@@ -122,7 +122,12 @@ pub fn changed_file(case: &mut Case) {
     if case.draw.one_in(3) {
         disorder_file(case);
     }
-    let (draw, file) = (&mut case.draw, &mut case.file);
+    change_bytes(&mut case.draw, &mut case.file);
+    case.kind += ", bytes changed";
+}
+
+/// Changes some bytes or bits, takes some out or puts some in.
+pub fn change_bytes(draw: &mut Draw, file: &mut Vec<u8>) {
     for _ in 0..draw.among(1, 3) {
         let place = draw.below(file.len() + 1);
         match draw.below(6) {
@@ -138,7 +143,6 @@ pub fn changed_file(case: &mut Case) {
             _ => file[place] = draw.below(10) as u8,
         }
     }
-    case.kind += ", bytes changed";
 }
 
 pub fn changes(case: &mut Case) {

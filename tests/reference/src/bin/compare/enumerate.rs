@@ -24,8 +24,8 @@ pub fn of_picture(n: usize, picture: usize) -> Network {
     Network { n, links }
 }
 
-/// All pictures for n up to 3 come first, then random ones for 4.
-fn pictured(case: &mut Case) -> Network {
+/// n and a picture: all for n up to 3 come first, then random ones for 4.
+pub fn pictured(case: &mut Case) -> (usize, usize) {
     let mut number = case.number as usize;
     let mut n = 0;
     while n < 4 && number >= 1 << (n * n) {
@@ -37,7 +37,7 @@ fn pictured(case: &mut Case) -> Network {
     } else {
         case.draw.below(1 << 16)
     };
-    of_picture(n, picture)
+    (n, picture)
 }
 
 /// A and B to search inside: all of them for n up to 2, else everyone and three drawn pairs.
@@ -139,7 +139,8 @@ fn size(group: usize) -> usize {
 }
 
 pub fn enumerate(case: &mut Case) {
-    let network = pictured(case);
+    let (n, picture) = pictured(case);
+    let network = of_picture(n, picture);
     let kind = format!("picture, n {}, m {}", network.n, network.links.len());
     case.kind = kind.clone();
     case.file = encode(&network);

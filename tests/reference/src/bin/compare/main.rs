@@ -5,6 +5,7 @@
 //! `VOUCH_ORDER`. This program exits with 1 where anything differs.
 mod calls;
 mod case;
+mod common;
 mod damage;
 mod enumerate;
 mod equal;
@@ -35,7 +36,7 @@ struct Part {
     run: fn(&mut Case),
 }
 
-const PARTS: [Part; 18] = [
+const PARTS: [Part; 19] = [
     Part {
         name: "paper",
         cases: 1,
@@ -95,6 +96,11 @@ const PARTS: [Part; 18] = [
         name: "equal",
         cases: 60,
         run: equal::equal,
+    },
+    Part {
+        name: "common",
+        cases: 540,
+        run: common::common,
     },
     Part {
         name: "journal-examples",

@@ -1,0 +1,43 @@
+-- The file of the links in both, and the three totals.
+use Prim.Native.Nat.{ℕ, ◌-◌, ◌≤◌}
+use mathlib.Core.List.{List}
+use mathlib.Core.Logic.Iff
+use mathlib.Core.Path.{◌≡◌}
+use native.Mathlib.Omega.{arith}
+use lib.ListN.{length}
+use lib.Seq.{sets}
+use Rattle.std.specs.Prelude.{None}
+use Rattle.graph.specs.Listed.{listed}
+use Rattle.graph.proofs.Listed.{listed-closed}
+use Rattle.network.specs.File.{link_at, graph_of}
+use Rattle.network.specs.Bytes.{standing}
+use Rattle.network.proofs.Held.{standing-written}
+use Rattle.merging.specs.Shared.{is_shared, shared}
+use Rattle.merging.specs.Merging.{Picked}
+use Rattle.merging.specs.Calls.{pair_refusal, CommonTold}
+use Rattle.merging.proofs.Shares.{total-first, shared-linked}
+use Rattle.merging.proofs.Pairs.{pair-accepted}
+use Rattle.merging.proofs.Picks.{picked-few, picked-lists, picked-ascending, picked-linked}
+
+-- two files that are not refused, and the list of the first's edges that are links of the second too: as many as of the second are links of the first
+module _ (f f' : List ℕ) (passed : pair_refusal f f' ≡ None) {l : List ℕ} (a : Picked (is_shared (graph_of f) (graph_of f')) (graph_of f).size l (length l))
+    (counted : length l ≡ shared (graph_of f') (graph_of f)) where
+  -- written to the output they are the file of the links in both, and the three totals are told by them
+  pub common-told : (out : List ℕ) {out' : List ℕ} {k i j : ℕ} → link_at (length l) ≤ length out → out' ≡ sets out 0 (standing (listed (graph_of f) l))
+      → k ≡ length l → i ≡ (graph_of f).size → j ≡ (graph_of f').size → CommonTold f f' out out' (record { both = k; first_only = i - k; second_only = j - k })
+  common-told out long e r s t =
+      let (first, second, one) = pair-accepted f f' passed in
+      let g = graph_of f in
+      let h = graph_of f' in
+      let own = total-first g h in
+      let other = total-first h g in
+      record {
+        both = omega (arith, a.counted);
+        first_only = omega (arith, a.counted);
+        second_only = omega (arith, counted);
+        first_size = omega (arith, picked-few a);
+        second_size = omega (arith, counted);
+        file = rw r
+            (standing-written first.sound.header.order-most (omega (arith, picked-few a, first.sound.header.size-most)) (listed-closed l first.sound.closed (picked-lists g a)) (picked-ascending g a first.ascending)
+            (λ u v. Iff.trans (picked-linked g a u v) (shared-linked g h u v)) out long e);
+      }

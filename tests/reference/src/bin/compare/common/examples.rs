@@ -1,0 +1,162 @@
+//! Pairs of files worked out by hand, by the reference and by the library.
+use super::{accepted, expect, expect_common, expect_written, judged, refused, try_files};
+use crate::case::Case;
+use networks::{all_links, encode, Link, Network};
+use reference::{LINKS, MEMBERS};
+
+/// n, the links of the first file and of the second, and those in both.
+type Example = (usize, &'static [Link], &'static [Link], &'static [Link]);
+
+const EXAMPLES: [Example; 24] = [
+    (0, &[], &[], &[]),
+    (1, &[], &[], &[]),
+    (1, &[(0, 0)], &[], &[]),
+    (1, &[(0, 0)], &[(0, 0)], &[(0, 0)]),
+    // The same two members, and another voucher or another vouched.
+    (2, &[(0, 1)], &[(1, 0)], &[]),
+    (2, &[(0, 1)], &[(0, 0)], &[]),
+    (2, &[(0, 1)], &[(1, 1)], &[]),
+    (2, &[(0, 0), (1, 1)], &[(0, 1), (1, 0)], &[]),
+    // A link of one file is at another place of the other.
+    (3, &[(0, 0), (0, 1), (0, 2)], &[(0, 2)], &[(0, 2)]),
+    (3, &[(0, 0), (1, 0), (2, 0)], &[(0, 1), (2, 0)], &[(2, 0)]),
+    (
+        3,
+        &[(0, 1), (0, 2), (2, 2)],
+        &[(0, 2), (1, 1), (2, 2)],
+        &[(0, 2), (2, 2)],
+    ),
+    // One file comes to its end before the other, with a link in both or behind it.
+    (3, &[(0, 0), (1, 1)], &[(1, 1), (2, 2)], &[(1, 1)]),
+    (3, &[(0, 0), (0, 1)], &[(1, 0), (2, 2)], &[]),
+    (3, &[(0, 0), (2, 2)], &[(1, 1)], &[]),
+    (3, &[(0, 0), (2, 2)], &[(1, 1), (2, 2)], &[(2, 2)]),
+    (3, &[(0, 0), (1, 2)], &[(0, 0), (1, 1), (2, 0)], &[(0, 0)]),
+    // Numbers of two bytes, of which one is the same, or both in another order.
+    (300, &[(0, 1), (256, 1)], &[(0, 257), (256, 1)], &[(256, 1)]),
+    (300, &[(1, 0)], &[(257, 0)], &[]),
+    (300, &[(0, 1)], &[(0, 257)], &[]),
+    (300, &[(256, 0)], &[(1, 0)], &[]),
+    (300, &[(255, 0), (256, 0)], &[(256, 0)], &[(256, 0)]),
+    (300, &[(0, 255), (0, 256)], &[(0, 256), (1, 0)], &[(0, 256)]),
+    (
+        300,
+        &[(0, 299), (256, 255), (299, 0)],
+        &[(0, 299), (255, 256), (299, 0)],
+        &[(0, 299), (299, 0)],
+    ),
+    (
+        MEMBERS,
+        &[(0, 2047), (2047, 0), (2047, 2047)],
+        &[(0, 2047), (1023, 2047), (2047, 2047)],
+        &[(0, 2047), (2047, 2047)],
+    ),
+];
+
+/// A byte of W's file, another value, and the number with that of the link which refuses the file then.
+type Damage = (usize, u8, (u16, u16));
+
+const DAMAGES: [Damage; 12] = [
+    (0, b'v', (2, 0)),
+    (3, 2, (3, 0)),
+    (6, 8, (4, 0)),
+    (8, 32, (5, 0)),
+    (7, 7, (6, 0)),
+    // Links 2 and 7 name member 6.
+    (17, 6, (7, 2)),
+    (39, 6, (7, 7)),
+    // Link 1 becomes 0→3, and link 7 becomes 4→5.
+    (15, 3, (8, 1)),
+    (37, 4, (8, 7)),
+    // Link 3 becomes 1→0, and link 6 becomes 0→5.
+    (23, 0, (15, 3)),
+    (33, 0, (15, 6)),
+    // n becomes 7, which is no fault of the file.
+    (5, 7, (0, 0)),
+];
+
+pub fn examples(case: &mut Case) {
+    case.kind = "example".into();
+    for (n, first, second, both) in EXAMPLES {
+        let [first, second, both] = [first, second, both].map(|links| Network::new(n, links));
+        expect_common(case, "example", [&first, &second], &both);
+        expect_common(case, "example", [&second, &first], &both);
+    }
+    expect_crowds(case);
+    expect_no_bytes(case);
+    let files = damaged_files();
+    for first in &files {
+        files
+            .iter()
+            .for_each(|second| expect_damaged(case, [first, second]));
+    }
+    expect_lengths(case);
+}
+
+/// Each of the most members vouches for the first four, and each of the later half for the first eight: both have the most links.
+fn expect_crowds(case: &mut Case) {
+    let members: Vec<usize> = (0..MEMBERS).collect();
+    let later = &members[MEMBERS / 2..];
+    let [all, eight, both] = [(&members[..], 4), (later, 8), (later, 4)]
+        .map(|(vouchers, given)| Network::new(MEMBERS, &all_links(vouchers, &members[..given])));
+    let counts = [&all, &eight, &both].map(|network| network.links.len());
+    case.compare(
+        || "the links of crowds".into(),
+        [LINKS, LINKS, LINKS / 2],
+        counts,
+    );
+    expect_common(case, "crowds", [&all, &eight], &both);
+    expect_common(case, "crowds", [&all, &all], &all);
+}
+
+/// Zero bytes count as the file of nobody, which is written for two of either.
+fn expect_no_bytes(case: &mut Case) {
+    let nobody = encode(&Network::new(0, &[]));
+    for files in [[&[][..], &[]], [&[], &nobody], [&nobody, &[]]] {
+        let wanted = (accepted([0; 3]), nobody.clone());
+        expect_written(case, "no bytes", files, wanted);
+        try_files(case, "no bytes", files);
+    }
+}
+
+/// A file, and the number that refuses it with that of a link, or zeros.
+type Told = (Vec<u8>, (u16, u16));
+
+/// W's file, the same damaged in one place, and its first 8 bytes.
+fn damaged_files() -> Vec<Told> {
+    let whole = encode(&Network::w());
+    let damaged = DAMAGES.iter().map(|&(place, byte, told)| {
+        let mut file = whole.clone();
+        file[place] = byte;
+        (file, told)
+    });
+    let short = (whole[..8].to_vec(), (1, 0));
+    let others = [(whole.clone(), (0, 0)), short];
+    damaged.chain(others).collect()
+}
+
+/// The first file's number comes first, then the second's, then 21 where n became another, and then 9 where the output is short.
+fn expect_damaged(case: &mut Case, [first, second]: [&Told; 2]) {
+    let told = [first.1, second.1].into_iter().find(|told| told.0 > 0);
+    let files = [&first.0[..], &second.0];
+    for length in [41, 40, 0] {
+        let wanted = match told {
+            Some((number, link)) => refused(number, link),
+            None if files[0] != files[1] => refused(21, 0),
+            None => judged(length, 41, [8, 0, 0]),
+        };
+        expect(case, "damaged W", files, length, wanted);
+    }
+}
+
+/// W and three links of which two are W's: 17 bytes are enough, whatever either file has.
+fn expect_lengths(case: &mut Case) {
+    let w = encode(&Network::w());
+    let few = encode(&Network::new(6, &[(0, 4), (3, 3), (5, 5)]));
+    for length in 0..60 {
+        let wanted = judged(length, 17, [2, 6, 1]);
+        expect(case, "lengths", [&w, &few], length, wanted);
+        let wanted = judged(length, 17, [2, 1, 6]);
+        expect(case, "lengths", [&few, &w], length, wanted);
+    }
+}
