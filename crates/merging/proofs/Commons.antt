@@ -17,7 +17,7 @@ use Rattle.merging.specs.Merging.{Picked}
 use Rattle.merging.specs.Calls.{pair_refusal, CommonTold}
 use Rattle.merging.proofs.Shares.{total-first, shared-linked}
 use Rattle.merging.proofs.Pairs.{pair-accepted}
-use Rattle.merging.proofs.Picks.{picked-few, picked-lists, picked-ascending, picked-linked}
+use Rattle.merging.proofs.Picks.{picked-few, picked-ascending, picked-linked}
 
 -- two files that are not refused, and the list of the first's edges that are links of the second too: as many as of the second are links of the first
 module _ (f f' : List ℕ) (passed : pair_refusal f f' ≡ None) {l : List ℕ} (a : Picked (is_shared (graph_of f) (graph_of f')) (graph_of f).size l (length l))
@@ -38,6 +38,6 @@ module _ (f f' : List ℕ) (passed : pair_refusal f f' ≡ None) {l : List ℕ} 
         first_size = omega (arith, picked-few a);
         second_size = omega (arith, counted);
         file = rw r
-            (standing-written first.sound.header.order-most (omega (arith, picked-few a, first.sound.header.size-most)) (listed-closed l first.sound.closed (picked-lists g a)) (picked-ascending g a first.ascending)
+            (standing-written first.sound.header.order-most (omega (arith, picked-few a, first.sound.header.size-most)) (listed-closed l first.sound.closed a.below) (picked-ascending g a first.ascending)
             (λ u v. Iff.trans (picked-linked g a u v) (shared-linked g h u v)) out long e);
       }

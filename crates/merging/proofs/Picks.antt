@@ -13,7 +13,7 @@ use Rattle.std.proofs.lemmas.List.{get_or-take}
 use Rattle.graph.specs.Range.{sum, if}
 use Rattle.graph.specs.Graph.{Graph, Linked}
 use Rattle.graph.specs.Order.{Ascending}
-use Rattle.graph.specs.Listed.{Lists, listed}
+use Rattle.graph.specs.Listed.{listed}
 use Rattle.graph.proofs.Sums.{sum-next, sum-tests}
 use Rattle.graph.proofs.Ascending.{ascending-later}
 use Rattle.merging.specs.Merging.{Picked}
@@ -84,13 +84,9 @@ picked-few {p} {n} a = omega (arith, a.counted, sum-tests p n)
 pub picked-cut : {p : ℕ → Bool} {n : ℕ} (l : List ℕ) (k : ℕ) → k ≤ length l → Picked p n l k → Picked p n (take k l) (length (take k l))
 picked-cut l k m a = rw (length-take-le k l m) (picked-same (take k l) (λ i h. get_or-take k l i 0 h) a)
 
--- of a network, the edges of a list
+-- the edges of a network that pass, in a list,
 module _ {p : ℕ → Bool} (g : Graph) {l : List ℕ} (a : Picked p g.size l (length l)) where
-  -- are edges of it,
-  pub picked-lists : Lists g l
-  picked-lists = a.below
-
-  -- ascend where these ascend,
+  -- ascend where its edges ascend,
   pub picked-ascending : Ascending g → Ascending (listed g l)
   picked-ascending next i h = ascending-later g next _ _ (a.rises i h) (a.below (suc i) h)
 

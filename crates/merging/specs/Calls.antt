@@ -23,7 +23,7 @@ abbrev pub InBoth : List ℕ → List ℕ → ℕ → ℕ → Type 0
 InBoth f f' u v = Linked (graph_of f) u v × Linked (graph_of f') u v
 
 -- 02: the three totals, and that each file's m is the first and its own; and a file of the links in both, over the same n, in the first bytes of the
--- output, with the later ones as they were
+-- output, with the later ones as they were: in it a ring for the committee is sought
 pub record CommonTold (f f' out out' : List ℕ) (c : CommonTotals) : Type 0 where
   pub both : c.both ≡ shared (graph_of f) (graph_of f')
   pub first_only : c.first_only ≡ unshared (graph_of f) (graph_of f')
