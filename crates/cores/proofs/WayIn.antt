@@ -19,9 +19,8 @@ use Rattle.network.specs.File.{graph_of}
 use Rattle.network.specs.Groups.{group_of, is_group, GroupIn, totals}
 use Rattle.network.specs.Refusals.{short_groups, work_length, core_refusal, level_refusal, equal_level_refusal}
 use Rattle.network.specs.Accepted.{Accepted}
-use Rattle.network.specs.Calls as call
 use Rattle.network.proofs.Accepted.{cond-none, accepted, accepted-or_else}
-use Rattle.network.proofs.Answers.{or_else-second}
+use Rattle.network.proofs.Answers.{call-err, call-ok, or_else-second}
 use Rattle.peeling.specs.Peeling.{Kept}
 use Rattle.cores.specs.Calls.{WorkKept, GroupsTold}
 use Rattle.cores.specs.Entries.{ask_refusal, later_refusal, entry_refusal, LongFor, Entered, EntryCall}
@@ -99,17 +98,11 @@ level-entry f a b x w = rw (no-groups (graph_of f).order (graph_of f).size w (sh
 module _ (ask : Option ℕ) {f a b : List ℕ} (s t : ℕ) {w w' : List ℕ} where
   -- a way in that is refused leaves the work table as it was,
   pub entry-refused : {q : Refusal} → EntryCall f a b ask s t w w' (Err q) → (entry_refusal ask f a b s t (length w) ≡ Some q) × (w' ≡ w)
-  entry-refused c = elim c [
-    | call.refused q j i k ↦ (j ∙ cc, cc)
-    | call.accepted v j i d ↦ absurd (let x : ◌≡◌ {A = ℕ} 0 1 = cc in omega arith)
-  ]
+  entry-refused c = let (e, k) = call-err c in (e, cc)
 
   -- any other lays the links from A to B into it
   pub entry_ready : {e : Extent} → EntryCall f a b ask s t w w' (Ok e) → (entry_refusal ask f a b s t (length w) ≡ None) × Entered f a b s t w w' e.order e.size
-  entry_ready {e} c = elim c [
-    | call.refused q j i k ↦ absurd (let x : ◌≡◌ {A = ℕ} 0 1 = cc in omega arith)
-    | call.accepted v j i d ↦ let x : v ≡ e = cc in (j, rw x at d)
-  ]
+  entry_ready = call-ok
 
 module _ {f a b : List ℕ} {s t : ℕ} {w w₁ : List ℕ} {n m : ℕ} (i : Entered f a b s t w w₁ n m) where
   -- what a walk leaves past the entries that are needed is what was there at first

@@ -6,42 +6,26 @@ use mathlib.Core.Path.{◌≡◌, refl, sym, ap, ◌∙◌}
 use native.Mathlib.Omega.{arith}
 use lib.ListN.{length, take, drop}
 use lib.Seq.{take_at}
-use Rattle.std.specs.Prelude.{None, Result, Ok}
-use Rattle.std.proofs.lemmas.Option.{none-some}
+use Rattle.std.specs.Prelude.{None, Ok}
 use Rattle.graph.specs.Range.{if}
 use Rattle.graph.specs.Graph.{Graph}
 use Rattle.graph.proofs.Sums.{sum-ext, sum_ones}
-use Rattle.network.specs.declared.Refusal.{Refusal}
 use Rattle.network.specs.File.{link_at, graph_of}
 use Rattle.network.specs.Held.{Filed, FileOf}
 use Rattle.network.specs.Accepted.{Accepted}
-use Rattle.network.specs.Calls as call
 use Rattle.network.proofs.Accepted.{accepted}
+use Rattle.network.proofs.Answers.{call-ok, call-passed}
 use Rattle.calls.proofs.Itself.{one-order}
 use Rattle.calls.proofs.Writer.{out_none, out-passed}
 use Rattle.merging.specs.declared.CommonTotals.{CommonTotals}
 use Rattle.merging.specs.Shared.{shared, unshared}
-use Rattle.merging.specs.Calls.{pair_refusal, common_refusal, InBoth, CommonTold, CommonCall, FilesExchanged, FileWithItself}
+use Rattle.merging.specs.Calls.{pair_refusal, InBoth, CommonTold, FilesExchanged, FileWithItself}
 use Rattle.merging.proofs.Shares.{one-ends, shared-holds, total-first}
 use Rattle.merging.proofs.Pairs.{pair-none, pair-accepted, pair-exchanged}
 
 -- there is one file of bytes, which is not empty, of the same links among as many members
 one-file : {n : ℕ} {holds : ℕ → ℕ → Type 0} {f f' : List ℕ} → Filed f → Filed f' → FileOf n holds f → FileOf n holds f' → f ≡ f'
 one-file {f} {f'} a b p q = (one-order f f' a b (p.order ∙ sym q.order)).0 (λ u v. Iff.trans (p.linked u v) (Iff.symm (q.linked u v)))
-
--- an accepted call has done its work,
-told : {f f' out out' : List ℕ} {c : CommonTotals} → CommonCall f f' out out' (Ok c) → (common_refusal f f' (length out) ≡ None) × CommonTold f f' out out' c
-told t = elim t [
-  | call.refused q j i k ↦ absurd (let x : ◌≡◌ {A = ℕ} 0 1 = cc in omega arith)
-  | call.accepted v j i h ↦ let x : v ≡ _ = cc in (j, rw x at h)
-]
-
--- and one without a refusal is accepted
-answered : {f f' out out' : List ℕ} {r : Result CommonTotals Refusal} → common_refusal f f' (length out) ≡ None → CommonCall f f' out out' r → (c : CommonTotals) × (r ≡ Ok c) × CommonTold f f' out out' c
-answered e t = elim t [
-  | call.refused q j i k ↦ absurd (none-some q (sym e ∙ j))
-  | call.accepted v j i h ↦ (v, i, h)
-]
 
 -- totals of the same three numbers are the same
 same-totals : {a b c a' b' c' : ℕ} → a ≡ a' → b ≡ b' → c ≡ c' → ◌≡◌ {A = CommonTotals} (record { both = a; first_only = b; second_only = c }) (record { both = a'; first_only = b'; second_only = c' })
@@ -52,10 +36,10 @@ pub files-exchanged : FilesExchanged
 files-exchanged f f' out out' o o' c r t n s = (i ∙ ap Ok (same-totals both first second), same)
   where
     h : CommonTold f f' out out' c
-    h = (told t).1
+    h = (call-ok t).1
 
     passed : (pair_refusal f f' ≡ None) × (link_at (shared (graph_of f) (graph_of f')) ≤ length out)
-    passed = out-passed _ _ (told t).0
+    passed = out-passed _ _ (call-ok t).0
 
     one : (graph_of f).order ≡ (graph_of f').order
     one = (pair-accepted f f' passed.0).2
@@ -65,7 +49,7 @@ files-exchanged f f' out out' o o' c r t n s = (i ∙ ap Ok (same-totals both fi
     turned = omega (arith, total-first (graph_of f') (graph_of f), h.second_size, h.second_only)
 
     other : (v : CommonTotals) × (r ≡ Ok v) × CommonTold f' f o o' v
-    other = answered (out_none _ _ (pair-exchanged f f' passed.0) (omega (arith, turned, h.both, passed.1, n))) s
+    other = call-passed (out_none _ _ (pair-exchanged f f' passed.0) (omega (arith, turned, h.both, passed.1, n))) s
 
     v : CommonTotals
     v = other.0
@@ -119,7 +103,7 @@ file-with-itself f out out' r a l t = (i ∙ ap Ok (same-totals both first secon
     none = omega (arith, total-first g g, shared-itself g)
 
     other : (v : CommonTotals) × (r ≡ Ok v) × CommonTold f f out out' v
-    other = answered (out_none _ _ (pair-none f f sound sound refl) (omega (arith, shared-itself g, long, l))) t
+    other = call-passed (out_none _ _ (pair-none f f sound sound refl) (omega (arith, shared-itself g, long, l))) t
 
     i : r ≡ Ok other.0
     i = other.1

@@ -2,9 +2,11 @@
 use Prim.Native.Nat.{ℕ}
 use mathlib.Core.Bool.{false≢true}
 use mathlib.Core.List.{List}
-use mathlib.Core.Path.{◌≡◌, refl, sym}
+use mathlib.Core.Path.{◌≡◌, refl, sym, ◌∙◌}
+use native.Mathlib.Omega.{arith}
 use Rattle.std.specs.Prelude.{Option, None, Some, Result, Ok, Err, IsErr, IfErr, IfOk}
 use Rattle.std.specs.Result.{result_err}
+use Rattle.std.proofs.lemmas.Option.{none-some}
 use Rattle.network.specs.declared.Refusal.{Refusal}
 use Rattle.network.specs.File.{or_else}
 use Rattle.network.specs.Calls.{Call, refused, accepted}
@@ -34,6 +36,27 @@ call-handed (Err p) e h i k = rw h (call_kept i k)
 pub call-done : {Value : Type 0} {refusal refusal' : Option Refusal} {before after : List (List ℕ)} {done done' : Value → Type 0} {answer : Result Value Refusal} → refusal ≡ refusal'
     → ((v : Value) → refusal ≡ None → done v → done' v) → Call refusal before after done answer → Call refusal' before after done' answer
 call-done e h c = rw (← e) (elim c [ refused q n i k ↦ refused q n i k | accepted v n i d ↦ accepted v n i (h v n d) ])
+
+-- a call that answers a refusal is refused by it, and has changed nothing
+pub call-err : {Value : Type 0} {refusal : Option Refusal} {q : Refusal} {before after : List (List ℕ)} {done : Value → Type 0} → Call refusal before after done (Err q)
+    → (refusal ≡ Some q) × (after ≡ before)
+call-err {q = q} c = elim c [
+  | refused p n i k ↦ let x : p ≡ q = cc in (rw x at n, k)
+  | accepted v n i d ↦ absurd (let x : ◌≡◌ {A = ℕ} 0 1 = cc in omega arith)
+]
+
+-- and one that answers values is not refused, and has done its work
+pub call-ok : {Value : Type 0} {refusal : Option Refusal} {before after : List (List ℕ)} {done : Value → Type 0} {v : Value} → Call refusal before after done (Ok v)
+    → (refusal ≡ None) × done v
+call-ok {v = v} c = elim c [
+  | refused q n i k ↦ absurd (let x : ◌≡◌ {A = ℕ} 0 1 = cc in omega arith)
+  | accepted u n i d ↦ let x : u ≡ v = cc in (n, rw x at d)
+]
+
+-- which one without a refusal has
+pub call-passed : {Value : Type 0} {refusal : Option Refusal} {before after : List (List ℕ)} {done : Value → Type 0} {answer : Result Value Refusal} → refusal ≡ None
+    → Call refusal before after done answer → (v : Value) × (answer ≡ Ok v) × done v
+call-passed e c = elim c [ refused q n i k ↦ absurd (none-some q (sym e ∙ n)) | accepted v n i d ↦ (v, i, d) ]
 
 -- an earlier refusal is that of the call,
 pub or_else-first : {r : Option Refusal} (s : Option Refusal) {q : Refusal} → r ≡ Some q → or_else r s ≡ Some q

@@ -8,11 +8,12 @@ use native.Mathlib.Omega.{arith}
 use borrow.Author.Tests.{lt-ltb, le-ltb, eq-eqb, eqb-true}
 use lib.Dec.{eqb, ltb}
 use mir.Val.{bool_byte}
-use lib.ListN.{length, get_or, take, drop, length-append, length-take}
+use lib.ListN.{length, get_or, take, drop, length-append, length-take, get_or-append}
 use Rattle.std.proofs.lemmas.List.{get_or-take}
 use Rattle.graph.specs.Range.{if}
 use Rattle.graph.specs.Graph.{Graph, Group, everyone}
 use Rattle.graph.specs.Shapes.{Same}
+use Rattle.graph.proofs.Tests.{if-le}
 use Rattle.graph.proofs.Ranges.{length-table, get_or-table, first_some, first-none, first-ext}
 use Rattle.network.specs.declared.Totals.{Totals}
 use Rattle.network.specs.Groups.{group_of, is_group, AllIn, Among, bytes_of, GroupIn}
@@ -53,6 +54,15 @@ group_of-bytes_of n S u l = rw (get_or-bytes_of n S u l) (test (S u))
 -- a table that begins with a group has a byte for each member
 pub group-long : (n : ℕ) (s : List ℕ) {s' : List ℕ} → GroupIn n s s' → n ≤ length s'
 group-long n s {s'} e = omega (arith, ap length e, length-append (bytes_of n (group_of s')) (drop n s), length-bytes_of n (group_of s'))
+
+-- and its bytes are 0 and 1
+pub group-written : (n : ℕ) (s : List ℕ) {s' : List ℕ} → GroupIn n s s' → is_group n s' ≡ true
+group-written n s {s'} e = byte-group n s' (λ u l. omega (arith, here u l, if-le (group_of s' u) 1))
+  where
+    here : (u : ℕ) → u < n → get_or s' u 0 ≡ if (group_of s' u) 1
+    here u l =
+        let S = group_of s' in
+        ap (λ t. get_or t u 0) e ∙ get_or-append (bytes_of n S) (drop n s) 0 u (omega (arith, length-bytes_of n S)) ∙ get_or-bytes_of n S u l
 
 -- a table cut to its first bytes has the same members
 pub cut-same : (g : Graph) (n : ℕ) (s : List ℕ) → g.order ≤ n → Same g (group_of (take n s)) (group_of s)

@@ -46,7 +46,7 @@ pub record Room (at n : ℕ) (w : List ℕ) : Type 0 where
   pub most : n ≤ 4096
   pub room : at + 2 * n ≤ length w
 
--- there is, and all nodes do
+-- a tree in a table: there is room for its keys and nodes, each node holds a place, and each that has two below it their winner
 pub record Tree (w : List ℕ) (at n : ℕ) : Type 0 where
   pub room : Room at n w
   pub matched : Matched (key_of w at) (node_of w at n) n 0

@@ -11,8 +11,8 @@ use Rattle.network.specs.declared.Refusal.{Refusal}
 use Rattle.network.specs.File.{most_links, link_at, graph_of, old_refusal}
 use Rattle.network.specs.Bytes.{written}
 use Rattle.network.specs.Refusals.{order_refusal}
-use Rattle.network.specs.Calls.{refused, accepted}
 use Rattle.network.proofs.Accepted.{old-accepted}
+use Rattle.network.proofs.Answers.{call-err, call-ok}
 use Rattle.network.proofs.Written.{length-written}
 use Rattle.calls.specs.Calls.{Rewritten, OrderCall}
 use Rattle.calls.proofs.Writer.{out-first, out_none, read_again}
@@ -30,26 +30,20 @@ order-full f o l = go (old_refusal f) refl
 module _ {f before middle : List ℕ} {a : Result ℕ Refusal} (l : link_at most_links ≤ length before) (c : OrderCall f before middle a) where
   -- a refused conversion: its line is printed
   pub converted-refused : {after : List ℕ} {r : ℕ} (q : Refusal) → a ≡ Err q → Begins middle (refusal_text q) after r → Rendered (Converts f) before after r
-  converted-refused {after} {r} q i b = elim c [
-    | refused p e j k ↦
-        let same : p ≡ q = cc in
-        let given : old_refusal f ≡ Some q = sym (order-full f (length before) l) ∙ e ∙ ap Some same in
-        let never : old_refusal f ≡ None → ⊥ = λ h. none-some q (sym h ∙ given) in
-        let unmoved : middle ≡ before = cc in
-        record {
-          text = refusal_text q;
-          told = record { refused = λ p h. ap refusal_text (same_Some _ _ (sym given ∙ h)); ordered = λ h. absurd (never h); again = λ h. absurd (never h) };
-          begins = rw unmoved at b;
-        }
-    | accepted v n j d ↦ absurd (let x : ◌≡◌ {A = ℕ} 0 1 = cc in omega arith)
-  ]
+  converted-refused {after} {r} q i b =
+      let (e, k) = call-err (rw i at c) in
+      let given : old_refusal f ≡ Some q = sym (order-full f (length before) l) ∙ e in
+      let never : old_refusal f ≡ None → ⊥ = λ h. none-some q (sym h ∙ given) in
+      let unmoved : middle ≡ before = cc in
+      record {
+        text = refusal_text q;
+        told = record { refused = λ p h. ap refusal_text (same_Some _ _ (sym given ∙ h)); ordered = λ h. absurd (never h); again = λ h. absurd (never h) };
+        begins = rw unmoved at b;
+      }
 
   -- a conversion that is not refused has written the file with its links in order,
   written-told : (m : ℕ) → a ≡ Ok m → (old_refusal f ≡ None) × Rewritten f before middle m
-  written-told m i = elim c [
-    | refused p e j k ↦ absurd (let x : ◌≡◌ {A = ℕ} 0 1 = cc in omega arith)
-    | accepted v n j d ↦ let x : v ≡ m = cc in (sym (order-full f (length before) l) ∙ n, rw x at d)
-  ]
+  written-told m i = let (n, d) = call-ok (rw i at c) in (sym (order-full f (length before) l) ∙ n, d)
 
   -- which stands at the start of the buffer
   pub converted-written : {r : ℕ} (m : ℕ) → a ≡ Ok m → r ≡ link_at m → Rendered (Converts f) before middle r

@@ -12,9 +12,8 @@ use Rattle.network.specs.declared.Refusal.{Refusal}
 use Rattle.network.specs.File.{most_members, most_links, graph_of, file_refusal}
 use Rattle.network.specs.Refusals.{work_length, core_refusal}
 use Rattle.network.specs.Accepted.{Sound}
-use Rattle.network.specs.Calls.{refused, accepted}
 use Rattle.network.proofs.Accepted as file
-use Rattle.network.proofs.Answers.{or_else-first}
+use Rattle.network.proofs.Answers.{call-err, call-ok, or_else-first}
 use Rattle.cores.proofs.WayIn.{core-none}
 use Rattle.cores.proofs.Everyone.{ones, ones-all, ones-group}
 use Rattle.searching.specs.declared.Ring.{Ring}
@@ -57,24 +56,17 @@ module _ {f s s' t t' w w' : List ℕ} {a : Result Ring Refusal} (z : Full s t w
 
   -- a refused finding: its line is printed
   pub rendered-refused : {before after : List ℕ} {r : ℕ} (q : Refusal) → a ≡ Err q → Begins before (refusal_text q) after r → Rendered (Prints f) before after r
-  rendered-refused q i b = elim c.call [
-    | refused p e j k ↦
-        let same : p ≡ q = cc in
-        let given : file_refusal f ≡ Some q = sym call-refusal ∙ e ∙ ap Some same in
-        record {
-          text = refusal_text q;
-          told = record { refused = λ p h. ap refusal_text (same_Some _ _ (sym given ∙ h)); accepted = λ h. absurd (none-some q (sym h ∙ given)) };
-          begins = b;
-        }
-    | accepted v n j d ↦ absurd (let x : ◌≡◌ {A = ℕ} 0 1 = cc in omega arith)
-  ]
+  rendered-refused q i b =
+      let given : file_refusal f ≡ Some q = sym call-refusal ∙ (call-err (rw i at c.call)).0 in
+      record {
+        text = refusal_text q;
+        told = record { refused = λ p h. ap refusal_text (same_Some _ _ (sym given ∙ h)); accepted = λ h. absurd (none-some q (sym h ∙ given)) };
+        begins = b;
+      }
 
   -- the call that found has found this
   found-told : (g : Ring) → a ≡ Ok g → (core_refusal f ones ones (length s) (length t) (length w) ≡ None) × FindingTold f ones ones s s' t t' w w' g
-  found-told g i = elim c.call [
-    | refused p e j k ↦ absurd (let x : ◌≡◌ {A = ℕ} 0 1 = cc in omega arith)
-    | accepted v n j d ↦ let x : v ≡ g = cc in (n, rw x at d)
-  ]
+  found-told g i = call-ok (rw i at c.call)
 
   -- so its file is accepted,
   found-sound : (g : Ring) → a ≡ Ok g → Sound f

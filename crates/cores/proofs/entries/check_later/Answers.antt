@@ -1,10 +1,9 @@
 -- `check_later` refuses a short table, then bytes that are no groups, then a 0 that is asked for.
-use Rattle.std.proofs.Common.{ℕ, rules, ◌≡◌, Bool, true, false, ◌&&◌, Option, None, Some, sym, ap, ◌∙◌, refl, arith, eqb}
+use Rattle.std.proofs.Common.{ℕ, rules, ◌≡◌, true, false, Option, None, Some, sym, ap, ◌∙◌, refl, arith, eqb}
 use Rattle.std.specs.Option.{option_eq}
-use Rattle.network.specs.Groups.{is_group}
 use Rattle.network.proofs.Groups.{groups_cut}
 use Rattle.cores.specs.Entries.{ask_refusal, later_refusal}
-use Rattle.cores.proofs.WayIn.{short, later-asks, long-for}
+use Rattle.cores.proofs.WayIn.{later-asks, long-for}
 use Rattle.cores.proofs.entries.check_later.Goals.{After-are_groups}
 use Rattle.cores.proofs.entries.check_later.Goals as goal
 
