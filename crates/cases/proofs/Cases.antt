@@ -1,6 +1,6 @@
 -- P1 to P9, a ring beside a star, both also inside A and B, the harmonic finder, zero bytes, the limits of a file,
--- links that do not ascend, journals, findings compared and the links in both of two files: every case of the table holds; and 19 and 20 for an entry,
--- by their law.
+-- links that do not ascend, journals, findings compared, the links in both of two files, and a link more: every case of the table holds; and 19 and 20
+-- for an entry, by their law.
 use mathlib.Core.Path.{refl}
 use Rattle.graph.specs.Range.{sum, first, flat}
 use Rattle.graph.specs.Order.{rank_by, nth_by}

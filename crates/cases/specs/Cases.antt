@@ -1,5 +1,5 @@
 -- 01's "Networks to try" and 02's examples as one table: each network as the bytes of its file, two groups A and B, and what is said of it
--- inside them, by the definitions; journals, as their bytes; findings compared; and the links in both of two files.
+-- inside them, by the definitions; journals, as their bytes; findings compared; the links in both of two files; and a link more.
 use Rattle.std.specs.Prelude.{ℕ, suc, Bool, true, false, ◌||◌, List, [], ◌∷◌, ◌++◌, ◌↔◌, ◌≡◌, Option, None, eqb, length, get_or, take}
 use Rattle.graph.specs.Graph.{Graph, Group, everyone, card, edges}
 use Rattle.graph.specs.Core.{CoreInside, LevelInside, LevelAcrossInside, EqualLevelInside, FindingInside}
@@ -196,6 +196,13 @@ received = header 6 8 ++ edge_bytes 0 3 ++ edge_bytes 0 4 ++ edge_bytes 1 3 ++ e
 abbrev pub confirmed : List ℕ
 confirmed = header 6 7 ++ edge_bytes 0 3 ++ edge_bytes 0 4 ++ edge_bytes 1 3 ++ edge_bytes 1 4 ++ edge_bytes 2 3 ++ edge_bytes 2 4 ++ edge_bytes 4 5
 
+-- 02, wish 12: a ring of two vouchers and two vouched members that lacks the link from 0 to 2, and with it
+abbrev pub one_short : List ℕ
+one_short = header 4 3 ++ edge_bytes 0 3 ++ edge_bytes 1 2 ++ edge_bytes 1 3
+
+abbrev pub one_more : List ℕ
+one_more = header 4 4 ++ edge_bytes 0 2 ++ edge_bytes 0 3 ++ edge_bytes 1 2 ++ edge_bytes 1 3
+
 -- the ring of W, and that of W of other members
 abbrev pub w_ring : Ring
 w_ring = record { x = 2; y = 3; S = 0 ∷ 1 ∷ 2 ∷ []; T = 3 ∷ 4 ∷ []; E = 6 }
@@ -276,7 +283,7 @@ abbrev pub says_in : List ℕ → List ℕ → List ℕ → Claim → Case
 says_in f A B c = record { file = f; sources = members A; targets = members B; claim = c }
 
 -- P1 to P9, W's report and W's layers, 02's example, some of these inside A and B, the harmonic finder, zero bytes, the limits of a file, links that
--- do not ascend, journals, findings compared, then the links in both of two files
+-- do not ascend, journals, findings compared, the links in both of two files, then a link more
 unfoldable pub cases : List Case
 cases =
     -- P1
@@ -466,6 +473,18 @@ cases =
     ∷ says w_and_a_link (pairs received 37 none)
     ∷ says [] (pairs [] 8 (plain 9))
     ∷ says [] (pairs [] 9 none)
+    -- what one vouch can move (02, wish 12): the equal level, the level of 2 and the level across for 2 rise by 1,
+    ∷ says one_short (finding 1 2 1 (0 ∷ 1 ∷ []) (3 ∷ []) 2)
+    ∷ says one_more (finding 2 2 2 (0 ∷ 1 ∷ []) (2 ∷ 3 ∷ []) 4)
+    ∷ says one_short (level 2 1)
+    ∷ says one_more (level 2 2)
+    ∷ says one_short (across 2 1)
+    ∷ says one_more (across 2 2)
+    -- the level of 1 stays, and so does that of 2 where the voucher is not in A
+    ∷ says one_short (level 1 2)
+    ∷ says one_more (level 1 2)
+    ∷ says_in one_short (1 ∷ []) (2 ∷ 3 ∷ []) (level 2 1)
+    ∷ says_in one_more (1 ∷ []) (2 ∷ 3 ∷ []) (level 2 1)
     ∷ []
 
 -- every case's claim holds

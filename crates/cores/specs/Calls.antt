@@ -1,12 +1,14 @@
 -- What the calls on cores and levels inside A and B promise.
-use Rattle.std.specs.Prelude.{ℕ, List, [], ◌∷◌, ◌≡◌, Option, Result, length, drop}
+use Rattle.std.specs.Prelude.{ℕ, List, [], ◌∷◌, ◌≡◌, Option, Result, Ok, length, drop}
 use Rattle.graph.specs.Core.{Inside, CoreInside, LevelInside, LevelAcrossInside, EqualLevelInside}
+use Rattle.graph.specs.Rises.{Rises}
 use Rattle.network.specs.declared.Refusal.{Refusal}
 use Rattle.network.specs.declared.Totals.{Totals}
 use Rattle.network.specs.File.{graph_of}
 use Rattle.network.specs.Groups.{group_of, Among, GroupIn, totals}
 use Rattle.network.specs.Refusals.{work_length, core_refusal, level_refusal, equal_level_refusal}
 use Rattle.network.specs.Calls.{Call}
+use Rattle.network.specs.Vouches.{Vouched}
 
 -- what lies past the entries that a work table needs is unchanged
 abbrev pub WorkKept : List ℕ → List ℕ → List ℕ → Type 0
@@ -51,3 +53,16 @@ LevelAcrossCall f a b y w w' = LevelBy (level_refusal f a b y (length w)) f (λ 
 -- the equal level
 abbrev pub EqualLevelCall : List ℕ → List ℕ → List ℕ → List ℕ → List ℕ → Result ℕ Refusal → Type 0
 EqualLevelCall f a b w w' = LevelBy (equal_level_refusal f a b (length w)) f (λ k. Among (graph_of f).order a b (λ A B. EqualLevelInside (graph_of f) A B k)) w w'
+
+-- 02, wish 12: of two accepted calls of a kind with the same A and B, on file f and on file f', the second's number is the first's or one more:
+pub record NumbersRise (f f' a b : List ℕ) : Type 0 where
+  -- the level of each x,
+  pub level : (x k k' : ℕ) (w₁ w₁' w₂ w₂' : List ℕ) → LevelCall f a b x w₁ w₁' (Ok k) → LevelCall f' a b x w₂ w₂' (Ok k') → Rises k k'
+  -- the level across for each y,
+  pub level_across : (y k k' : ℕ) (w₁ w₁' w₂ w₂' : List ℕ) → LevelAcrossCall f a b y w₁ w₁' (Ok k) → LevelAcrossCall f' a b y w₂ w₂' (Ok k') → Rises k k'
+  -- and the equal level
+  pub equal_level : (k k' : ℕ) (w₁ w₁' w₂ w₂' : List ℕ) → EqualLevelCall f a b w₁ w₁' (Ok k) → EqualLevelCall f' a b w₂ w₂' (Ok k') → Rises k k'
+
+-- so it is where f' holds one link more than f
+abbrev pub OneVouchTold : Type 0
+OneVouchTold = (f f' : List ℕ) (u v : ℕ) → Vouched f f' u v → (a b : List ℕ) → NumbersRise f f' a b

@@ -15,6 +15,9 @@ pub mod Weights
 pub mod Found
 pub mod Quiet
 pub mod Masks
+pub mod Pairs
+pub mod Adding
+pub mod Vouches
 pub mod Layers
 pub mod Layered
 pub mod Layering

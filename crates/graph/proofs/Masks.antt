@@ -1,12 +1,12 @@
 -- One graph with two weights: heavier edges make no core smaller, and only the weights of its edges count.
 use Prim.Native.Nat.{ℕ, ◌<◌, ◌≤◌}
-use mathlib.Core.Bool.{Bool, true, false, ◌&&◌}
+use mathlib.Core.Bool.{◌&&◌}
 use mathlib.Core.Path.{◌≡◌, sym}
-use native.Mathlib.Nat.{le_trans, le_refl, le_of_eq}
-use Rattle.graph.specs.Range.{if}
+use native.Mathlib.Nat.{le_trans, le_of_eq}
 use Rattle.graph.specs.Graph.{Graph, Group, edges}
 use Rattle.graph.specs.Shapes.{Closed}
 use Rattle.graph.specs.Core.{Dense, CoreInside, NonemptyInside, FindingInside}
+use Rattle.graph.proofs.Tests.{if-heavier}
 use Rattle.graph.proofs.Sums.{sum_mono}
 use Rattle.graph.proofs.Degrees.{only}
 use Rattle.graph.proofs.Exists.{nonempty-in}
@@ -37,11 +37,7 @@ finding-same g w w' core back f =
 module _ (g : Graph) (w w' : ℕ → ℕ) (h : (e : ℕ) → e < g.size → w e ≤ w' e) where
   -- heavier edges count more between two groups
   edges-heavier : (S T : Group) → edges (weighing g w) S T ≤ edges (weighing g w') S T
-  edges-heavier S T = sum_mono g.size (λ e l. each (S (g.source e) && T (g.target e)) (h e l))
-    where
-      each : {i j : ℕ} (b : Bool) → i ≤ j → if b i ≤ if b j
-      each true l = l
-      each false l = le_refl 0
+  edges-heavier S T = sum_mono g.size (λ e l. if-heavier (S (g.source e) && T (g.target e)) (λ i. h e l))
 
   -- so a dense pair stays dense,
   dense-heavier : {x y : ℕ} {S T : Group} → Dense (weighing g w) x y S T → Dense (weighing g w') x y S T

@@ -40,6 +40,10 @@ if-comm a b w = grind (arith, nat_tests)
 pub if-mono : {a b : Bool} (w : ℕ) → (a ≡ true → b ≡ true) → if a w ≤ if b w
 if-mono w h = grind (arith, nat_tests)
 
+-- nor does it count less with a greater weight, which is asked for only where it holds
+pub if-heavier : (b : Bool) {i j : ℕ} → (b ≡ true → i ≤ j) → if b i ≤ if b j
+if-heavier b h = grind (arith, nat_tests)
+
 -- no test counts more than its weight
 pub if-le : (b : Bool) (w : ℕ) → if b w ≤ w
 if-le b w = grind (arith, nat_tests)

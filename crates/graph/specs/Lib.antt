@@ -2,12 +2,14 @@ pub mod Range
 pub mod Graph
 pub mod Core
 pub mod Quiet
+pub mod Rises
 pub mod Layers
 pub mod Places
 pub mod Harmonic
 pub mod Within
 pub mod Order
 pub mod Shapes
+pub mod Adding
 pub mod Listed
 pub mod Sorting
 pub mod Search

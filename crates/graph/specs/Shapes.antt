@@ -12,6 +12,10 @@ pub record Closed (g : Graph) : Type 0 where
 abbrev pub Simple : Graph → Type 0
 Simple g = (d e : ℕ) → d < g.size → e < g.size → g.source d ≡ g.source e → g.target d ≡ g.target e → d ≡ e
 
+-- each edge weighs 1
+abbrev pub Single : Graph → Type 0
+Single g = (e : ℕ) → e < g.size → g.weight e ≡ 1
+
 -- the weights of all edges together: of a network, the number of its links
 abbrev pub total : Graph → ℕ
 total g = sum g.weight g.size

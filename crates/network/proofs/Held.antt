@@ -1,6 +1,6 @@
 -- Files by what they hold. A network whose edges ascend, written as they stand, is a file of its links; and files of as many members that hold the same
 -- links have one network: their edges stand alike, and past the last one both read as zeros.
-use Prim.Native.Nat.{ℕ, zero, suc, ◌+◌, ◌*◌, ◌/◌, ◌%◌, ◌<◌, ◌≤◌}
+use Prim.Native.Nat.{ℕ, zero, suc, ◌+◌, ◌<◌, ◌≤◌}
 use mathlib.Core.List.{List, [], ◌∷◌, ◌++◌}
 use mathlib.Core.Logic.{◌↔◌}
 use mathlib.Core.Logic.Iff
@@ -13,12 +13,13 @@ use Rattle.std.proofs.Math.Path.{fun_ext}
 use Rattle.std.proofs.lemmas.List.{get_or_past}
 use Rattle.graph.specs.Range.{flat}
 use Rattle.graph.specs.Graph.{Graph, Linked}
-use Rattle.graph.specs.Shapes.{Closed}
+use Rattle.graph.specs.Shapes.{Closed, Simple}
 use Rattle.graph.specs.Order.{Ascending}
 use Rattle.graph.proofs.Ranges.{flat-ext}
+use Rattle.graph.proofs.Order.{edge_at-lt}
 use Rattle.graph.proofs.Ascending.{ascending-edge_at, ascending-simple, Alike, ascending-alike}
 use Rattle.network.specs.File.{most_members, most_links, u16_at, link_at, graph_of, mark}
-use Rattle.network.specs.Bytes.{u16, header, edge_bytes, edges_bytes, standing, written}
+use Rattle.network.specs.Bytes.{u16, header, edge_bytes, standing, ranked, written}
 use Rattle.network.specs.Accepted.{Accepted}
 use Rattle.network.specs.Held.{Filed, FileOf, FileWritten}
 use Rattle.network.proofs.Accepted.{accepted}
@@ -101,42 +102,46 @@ bytes-edges g (suc m) h =
     let (p, q) = h m (omega arith) in
     bytes-append (bytes-edges g m (λ e l. h e (omega arith))) (bytes-append (bytes-u16 (g.source m) p) (bytes-u16 (g.target m) q))
 
--- a network within the limits, of which the edges ascend
-module _ {g : Graph} (few : g.order ≤ most_members) (most : g.size ≤ most_links) (closed : Closed g) (ascending : Ascending g) where
-  -- with its edges as they stand it is an accepted file of bytes,
-  standing-filed : Filed (standing g)
-  standing-filed =
+-- a network within the limits, written
+module _ {g : Graph} (few : g.order ≤ most_members) (most : g.size ≤ most_links) (closed : Closed g) (simple : Simple g) where
+  -- is an accepted file of bytes
+  pub written-filed : Filed (written g)
+  written-filed =
       record {
-        bytes = (bytes-append (bytes-header g.order g.size (omega arith) (omega arith))
-            (bytes-edges g g.size (λ e l. (omega (arith, closed.source-below e l), omega (arith, closed.target_below e l))))).byte;
+        bytes = (bytes-append (bytes-header g.order g.size (omega arith) (omega arith)) (bytes-edges (ranked g) g.size (λ i l.
+            let e = edge_at-lt g i l in (omega (arith, closed.source-below _ e), omega (arith, closed.target_below _ e))))).byte;
         some = omega arith;
-        accepted = rw (← written-standing g ascending) ((accepted (written g)).1 (written-accepted few most closed (ascending-simple g ascending)));
+        accepted = (accepted (written g)).1 (written-accepted few most closed simple);
       }
 
-  -- which holds its links, and stands so at the front of an output
-  pub standing-written : {holds : ℕ → ℕ → Type 0} → ((u v : ℕ) → Linked g u v ↔ holds u v) → (out : List ℕ) {out' : List ℕ} → link_at g.size ≤ length out
-      → out' ≡ sets out 0 (standing g) → FileWritten g.order holds out out' g.size
-  standing-written {holds} linked out long e =
-      record {
-        file = standing g;
-        front = e ∙ sets-front out (standing g) (omega (arith, long')) ∙ ap (λ k. standing g ++ drop k out) long';
-        long = long';
-        filed = standing-filed;
-        held = held;
-        size = sym (ap (λ f. (graph_of f).size) (sym same) ∙ written-size g);
-        network = λ f h. same-network h held;
-      }
-    where
-      same : written g ≡ standing g
-      same = written-standing g ascending
+  -- that holds its links
+  pub written-held : {holds : ℕ → ℕ → Type 0} → ((u v : ℕ) → Linked g u v ↔ holds u v) → FileOf g.order holds (written g)
+  written-held linked =
+      record { accepted = written-filed.accepted; order = written-order g; linked = λ u v. Iff.trans (written-linked g u v) (linked u v) }
 
-      long' : length (standing g) ≡ link_at g.size
-      long' = ap length (sym same) ∙ length-written g
+-- and with its edges as they stand, where these ascend, at the front of an output
+pub standing-written : {g : Graph} {holds : ℕ → ℕ → Type 0} → g.order ≤ most_members → g.size ≤ most_links → Closed g → Ascending g
+    → ((u v : ℕ) → Linked g u v ↔ holds u v) → (out : List ℕ) {out' : List ℕ} → link_at g.size ≤ length out
+    → out' ≡ sets out 0 (standing g) → FileWritten g.order holds out out' g.size
+standing-written {g} {holds} few most closed ascending linked out long e =
+    record {
+      file = standing g;
+      front = e ∙ sets-front out (standing g) (omega (arith, long')) ∙ ap (λ k. standing g ++ drop k out) long';
+      long = long';
+      filed = rw same at (written-filed few most closed simple);
+      held = held;
+      size = sym (ap (λ f. (graph_of f).size) (sym same) ∙ written-size g);
+      network = λ f h. same-network h held;
+    }
+  where
+    same : written g ≡ standing g
+    same = written-standing g ascending
 
-      held : FileOf g.order holds (standing g)
-      held =
-          record {
-            accepted = standing-filed.accepted;
-            order = ap (λ f. (graph_of f).order) (sym same) ∙ written-order g;
-            linked = λ u v. rw (← same) (Iff.trans (written-linked g u v) (linked u v));
-          }
+    simple : Simple g
+    simple = ascending-simple g ascending
+
+    long' : length (standing g) ≡ link_at g.size
+    long' = ap length (sym same) ∙ length-written g
+
+    held : FileOf g.order holds (standing g)
+    held = rw same at (written-held few most closed simple linked)

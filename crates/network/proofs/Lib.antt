@@ -6,4 +6,5 @@ pub mod Groups
 pub mod Puts
 pub mod Written
 pub mod Held
+pub mod Vouches
 pub mod Examples

@@ -3,6 +3,7 @@ pub mod Small
 pub mod Groups
 pub mod Bytes
 pub mod Held
+pub mod Vouches
 pub mod Refusals
 pub mod Calls
 pub mod Sides

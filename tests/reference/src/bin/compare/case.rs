@@ -15,6 +15,8 @@ pub struct Tally {
     pub refusals: [u64; 22],
     /// For each number of a journal's entry, how many followed entries had it; for 0, how many were accepted.
     pub entries: [u64; 21],
+    /// For the level, the level across and the equal level, how often a link more left it as it was and how often it raised it by 1.
+    pub rises: [[u64; 2]; 3],
 }
 
 /// Bytes in hexadecimal.
@@ -31,6 +33,18 @@ impl Tally {
         }
         for (sum, more) in self.entries.iter_mut().zip(other.entries) {
             *sum += more;
+        }
+        for (sum, more) in self.rises.iter_mut().flatten().zip(other.rises.concat()) {
+            *sum += more;
+        }
+    }
+
+    /// Of each of the three calls a level must have stayed and one must have risen: else too little was tried.
+    pub fn require_rises(&mut self) {
+        self.comparisons += 1;
+        if self.rises.concat().contains(&0) {
+            self.differences += 1;
+            println!("DIFFERENCE over all cases: rises {:?}", self.rises);
         }
     }
 }
@@ -92,6 +106,11 @@ impl<'a> Case<'a> {
         for &number in numbers {
             self.tally.entries[number as usize] += 1;
         }
+    }
+
+    /// Counts how far a link more raised a level: the level, the level across or the equal level, in this order.
+    pub fn rose(&mut self, level: usize, by: usize) {
+        self.tally.rises[level][by] += 1;
     }
 
     /// Compares what was expected, by the reference or by the paper, with what the library gave.

@@ -20,6 +20,7 @@ mod paper;
 mod program;
 mod rows;
 mod table;
+mod vouch;
 
 use case::{Case, Tally};
 use std::env;
@@ -36,7 +37,7 @@ struct Part {
     run: fn(&mut Case),
 }
 
-const PARTS: [Part; 19] = [
+const PARTS: [Part; 20] = [
     Part {
         name: "paper",
         cases: 1,
@@ -103,6 +104,11 @@ const PARTS: [Part; 19] = [
         run: common::common,
     },
     Part {
+        name: "vouch",
+        cases: 720,
+        run: vouch::vouch,
+    },
+    Part {
         name: "journal-examples",
         cases: 1,
         run: journal::examples,
@@ -143,6 +149,10 @@ fn run_part(part: &Part, seed: u64, only: Option<u64>) -> Tally {
     for number in numbers {
         (part.run)(&mut Case::new(part.name, number, seed, &mut tally));
     }
+    // A case alone may have no rise.
+    if part.name == "vouch" && only.is_none() {
+        tally.require_rises();
+    }
     println!(
         "{:<18}{:>6} cases{:>9} comparisons{:>4} differences{:>7.1} s",
         part.name,
@@ -164,11 +174,16 @@ fn counted(counts: &[u64]) -> String {
     counts.join(", ")
 }
 
-/// Prints how often each refusal number was compared and each number of an entry, where entries were followed, and the sum.
+/// Prints how often each refusal number was compared, each number of an entry, where entries were followed, and each rise of a level, where
+/// links were added; and the sum.
 fn print_sum(sum: &Tally) {
     println!("answers by refusal: {}", counted(&sum.refusals));
     if sum.entries.iter().any(|&count| count > 0) {
         println!("entries by number: {}", counted(&sum.entries));
+    }
+    if sum.rises != Tally::default().rises {
+        let [level, across, equal] = sum.rises.map(|counts| counted(&counts));
+        println!("levels by rise: {level}; across: {across}; equal: {equal}");
     }
     println!(
         "{} comparisons, {} differences",

@@ -57,6 +57,12 @@ pub fn largest_file(case: &mut Case) {
     }
 }
 
+/// Makes the case's file; its network.
+pub fn drawn(case: &mut Case, set_file: fn(&mut Case)) -> Network {
+    set_file(case);
+    read(&case.file).expect("the file of a network")
+}
+
 /// Puts the links of the case's accepted file in an order that descends, where there are two; whether there are.
 pub fn disorder_file(case: &mut Case) -> bool {
     match read(&case.file) {

@@ -200,11 +200,16 @@ pub fn order(case: &mut Case) {
 fn try_calls(case: &mut Case, network: &Network, faults: &[u16]) {
     for &fault in [0].iter().chain(faults) {
         case.file = faulty_file(&mut case.draw, network, &[fault]);
-        for call in &CALLS {
-            try_call(case, network, call, fault);
-        }
-        try_call(case, network, &CONVERSION, by_old_rule(fault));
+        try_every_call(case, network, fault);
     }
+}
+
+/// Every call on the case's file, which is the network's but for this fault, or none.
+pub fn try_every_call(case: &mut Case, network: &Network, fault: u16) {
+    for call in &CALLS {
+        try_call(case, network, call, fault);
+    }
+    try_call(case, network, &CONVERSION, by_old_rule(fault));
 }
 
 /// One call: of the file's fault, 9 where a table is short, and the numbers for what else is faulty, the first in order is given.

@@ -3,9 +3,9 @@
 use super::{expect, expect_common, refused, try_files};
 use crate::case::Case;
 use crate::kinds::{network, KINDS};
-use crate::networks::{full_file, largest_file, medium_file, small_file};
+use crate::networks::{drawn, full_file, largest_file, medium_file, small_file};
 use networks::{encode, Draw, Link, Network};
-use reference::{file_length, read, MEMBERS};
+use reference::{file_length, MEMBERS};
 
 /// Where a link is.
 #[derive(Clone, Copy, PartialEq)]
@@ -173,12 +173,6 @@ fn expect_other_n(case: &mut Case, files: [&[u8]; 2]) {
     for length in [enough, file_length(0) - 1, 0] {
         expect(case, "another n", files, length, refused(21, 0));
     }
-}
-
-/// The network of the case's file, with which both files are made.
-fn drawn(case: &mut Case, set_file: fn(&mut Case)) -> Network {
-    set_file(case);
-    read(&case.file).expect("the file of a network")
 }
 
 /// Small networks, or one in eleven times medium ones, related in every way; and, one in thirteen times, of full size in one way by turns.
