@@ -10,17 +10,16 @@ use lib.ListN.{length}
 use Rattle.std.proofs.lemmas.Bool.Decides.{nat_tests}
 use Rattle.graph.proofs.Tests.{and_both}
 use Rattle.graph.proofs.Stores.{drop_more}
-use Rattle.std.specs.Prelude.{Option, None, Some, Ok, Err}
+use Rattle.std.specs.Prelude.{Option, None, Some, Err}
 use Rattle.network.specs.declared.Refusal.{Refusal}
 use Rattle.network.specs.declared.Refusal.TheVariants.{Zero}
-use Rattle.network.specs.declared.Extent.{Extent}
 use Rattle.network.specs.declared.Totals.{Totals}
 use Rattle.network.specs.File.{graph_of}
 use Rattle.network.specs.Groups.{group_of, is_group, GroupIn, totals}
 use Rattle.network.specs.Refusals.{short_groups, work_length, core_refusal, level_refusal, equal_level_refusal}
 use Rattle.network.specs.Accepted.{Accepted}
 use Rattle.network.proofs.Accepted.{cond-none, accepted, accepted-or_else}
-use Rattle.network.proofs.Answers.{call-err, call-ok, or_else-second}
+use Rattle.network.proofs.Answers.{call-err, or_else-second}
 use Rattle.peeling.specs.Peeling.{Kept}
 use Rattle.cores.specs.Calls.{WorkKept, GroupsTold}
 use Rattle.cores.specs.Entries.{ask_refusal, later_refusal, entry_refusal, LongFor, Entered, EntryCall}
@@ -96,13 +95,9 @@ unfolding entry_refusal later_refusal level_refusal
 level-entry f a b x w = rw (no-groups (graph_of f).order (graph_of f).size w (short_groups (graph_of f).order a b))
 
 module _ (ask : Option ℕ) {f a b : List ℕ} (s t : ℕ) {w w' : List ℕ} where
-  -- a way in that is refused leaves the work table as it was,
+  -- a way in that is refused leaves the work table as it was
   pub entry-refused : {q : Refusal} → EntryCall f a b ask s t w w' (Err q) → (entry_refusal ask f a b s t (length w) ≡ Some q) × (w' ≡ w)
   entry-refused c = let (e, k) = call-err c in (e, cc)
-
-  -- any other lays the links from A to B into it
-  pub entry_ready : {e : Extent} → EntryCall f a b ask s t w w' (Ok e) → (entry_refusal ask f a b s t (length w) ≡ None) × Entered f a b s t w w' e.order e.size
-  entry_ready = call-ok
 
 module _ {f a b : List ℕ} {s t : ℕ} {w w₁ : List ℕ} {n m : ℕ} (i : Entered f a b s t w w₁ n m) where
   -- what a walk leaves past the entries that are needed is what was there at first

@@ -13,7 +13,7 @@ use Rattle.std.proofs.lemmas.Bool.Decides.{nat_tests}
 use Rattle.graph.specs.Graph.{Graph, reverse, Linked, Group, card, edges}
 use Rattle.graph.specs.Core.{Dense, NonemptyInside, Greatest}
 use Rattle.graph.specs.Rises.{LinkedOr, Rises, LevelsRise}
-use Rattle.graph.specs.Adding.{Plain, OneMore, Raised}
+use Rattle.graph.specs.Adding.{Plain, Added, Raised}
 use Rattle.graph.proofs.Tests.{and_right}
 use Rattle.graph.proofs.Degrees.{closed-reverse, only, without, edges-mono, edges-without, inside-without, without-inside}
 use Rattle.graph.proofs.Exists.{dense-reverse, dense-other, nonempty-in, nonempty-nested, nonempty-reverse}
@@ -40,8 +40,8 @@ plain-reverse : {g : Graph} → Plain g → Plain (reverse g)
 plain-reverse p = record { closed = closed-reverse p.closed; simple = λ d e l m s t. p.simple d e l m t s }
 
 -- and two of which the second has one edge more
-more-reverse : {g h : Graph} {u v : ℕ} → OneMore g h u v → OneMore (reverse g) (reverse h) v u
-more-reverse {g} {h} o =
+added-reverse : {g h : Graph} {u v : ℕ} → Added g h u v → Added (reverse g) (reverse h) v u
+added-reverse {g} {h} o =
     record {
       first = plain-reverse o.first;
       second = plain-reverse o.second;
@@ -51,7 +51,7 @@ more-reverse {g} {h} o =
       linked = λ a b. (λ l. or-reverse g ((o.linked b a).0 (linked-reverse (reverse h) l)), λ i. linked-reverse h ((o.linked b a).1 (or-reverse (reverse g) i)));
     }
 
-module _ {g h : Graph} {u v : ℕ} (o : OneMore g h u v) where
+module _ {g h : Graph} {u v : ℕ} (o : Added g h u v) where
   -- between groups no less is counted,
   no-less : (S T : Group) → edges g S T ≤ edges h S T
   no-less S T = linked-le o.first o.first_single o.second o.second_single o.order S T (λ a b s t l. (o.linked a b).1 (inl l))
@@ -122,14 +122,14 @@ module _ {g h : Graph} {u v : ℕ} (o : OneMore g h u v) where
       record { stays = λ k. nonempty-stays; fewer = λ k l n. nonempty-nested o.first.closed {x' = k} (omega arith) (le_refl k) (nonempty-fewer (omega arith) n) }
 
 -- in the reversed graph what holds of x, for one y
-raised-across : {g h : Graph} {u v : ℕ} → OneMore g h u v → (A B : Group) (y : ℕ)
+raised-across : {g h : Graph} {u v : ℕ} → Added g h u v → (A B : Group) (y : ℕ)
     → Raised (λ x. NonemptyInside g A B x y) (λ x. NonemptyInside h A B x y)
 raised-across o A B y =
-    let r = raised (more-reverse o) B A y in
+    let r = raised (added-reverse o) B A y in
     record { stays = λ x. nonempty-stays o; fewer = λ x l n. nonempty-reverse (r.fewer x l (nonempty-reverse n)) }
 
 -- 02, wish 12: so each level rises by 0 or 1
-pub levels-rise : {g h : Graph} {u v : ℕ} → OneMore g h u v → LevelsRise g h
+pub levels-rise : {g h : Graph} {u v : ℕ} → Added g h u v → LevelsRise g h
 levels-rise o =
     record {
       level = λ A B x k k'. greatest-rises (raised o A B x);

@@ -21,7 +21,7 @@ pub record Plain (g : Graph) : Type 0 where
   pub simple : Simple g
 
 -- two such graphs in which each edge weighs 1, of which h has the links of g and one from u to v
-pub record OneMore (g h : Graph) (u v : ℕ) : Type 0 where
+pub record Added (g h : Graph) (u v : ℕ) : Type 0 where
   pub first : Plain g
   pub second : Plain h
   pub first_single : Single g

@@ -8,19 +8,18 @@ use native.Mathlib.Omega.{arith}
 use Rattle.std.specs.Prelude.{None}
 use Rattle.graph.specs.Shapes.{Single}
 use Rattle.graph.specs.Adding.{add, Plain}
-use Rattle.graph.proofs.Ascending.{ascending-simple}
 use Rattle.graph.proofs.Pairs.{linked-size}
 use Rattle.graph.proofs.Adding.{add-linked, add-plain}
 use Rattle.graph.proofs.Vouches.{levels-rise}
 use Rattle.network.specs.File.{graph_of, file_refusal}
 use Rattle.network.specs.Bytes.{written}
 use Rattle.network.specs.Vouches.{OneVouch, VouchFits, NothingToAdd}
-use Rattle.network.proofs.Accepted.{accepted}
+use Rattle.network.proofs.Accepted.{accepted, accepted-distinct}
 use Rattle.network.proofs.Held.{written-filed, written-held}
 
 -- the network of an accepted file is plain
 plain : (f : List ℕ) → file_refusal f ≡ None → Plain (graph_of f)
-plain f a = let h = (accepted f).0 a in record { closed = h.sound.closed; simple = ascending-simple (graph_of f) h.ascending }
+plain f a = let d = accepted-distinct ((accepted f).0 a) in record { closed = d.sound.closed; simple = d.simple }
 
 -- and each link of a file has weight 1
 single : (f : List ℕ) → Single (graph_of f)

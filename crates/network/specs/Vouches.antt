@@ -5,8 +5,8 @@ use Rattle.graph.specs.Rises.{LinkedOr, LevelsRise}
 use Rattle.network.specs.File.{most_links, graph_of, file_refusal}
 use Rattle.network.specs.Held.{Filed, FileOf}
 
--- 02: the link from u to v is absent from file f, and f' is an accepted file over the same n that holds exactly the links of f and that one. Both are
--- members then, since f' is accepted.
+-- 02: the link from u to v is absent from file f, and f' is an accepted file over the same n that holds exactly the links of f and that one; u
+-- and v are members then, since f' is accepted
 pub record Vouched (f f' : List ℕ) (u v : ℕ) : Type 0 where
   pub absent : ¬ Linked (graph_of f) u v
   pub file : FileOf (graph_of f).order (LinkedOr (graph_of f) u v) f'

@@ -1,8 +1,8 @@
 -- `core` is refused on the way in, or writes the groups that the peel leaves, and keeps them inside A and B.
 use Rattle.std.proofs.Common.{rules, [], ◌∷◌, refl, sym, ap, ◌∙◌, arith}
 use Rattle.network.specs.Calls as call
-use Rattle.network.proofs.Answers.{call-handed}
-use Rattle.cores.proofs.WayIn.{core-entry, entry-refused, entry_ready}
+use Rattle.network.proofs.Answers.{call-ok, call-handed}
+use Rattle.cores.proofs.WayIn.{core-entry, entry-refused}
 use Rattle.cores.proofs.Copying.{kept-cut}
 use Rattle.cores.proofs.Told.{core-told}
 use Rattle.cores.proofs.asks.core.Goals as goal
@@ -15,7 +15,7 @@ returns-in_err-extent c =
 
 pub returns : goal.returns
 returns c =
-    let (e, r) = entry_ready _ _ _ c.in_ok-extent.ensures in
+    let (e, r) = call-ok c.in_ok-extent.ensures in
     let sources = kept-cut c.args.a.now (omega arith) (omega (arith, r.order, r.long)) c.keep_inside.ensures in
     let targets = kept-cut c.args.b.now (omega arith) (omega (arith, r.order, r.long)) c.keep_inside-2.ensures in
     call.accepted _ (sym (core-entry _ _ _ _ _ _) ∙ e) refl

@@ -1,6 +1,7 @@
 -- `finding` is refused on the way in, or finds among the links that are laid into the work table.
 use Rattle.std.proofs.Common.{rules, sym, ◌∙◌}
-use Rattle.cores.proofs.WayIn.{core-entry, entry-refused, entry_ready}
+use Rattle.network.proofs.Answers.{call-ok}
+use Rattle.cores.proofs.WayIn.{core-entry, entry-refused}
 use Rattle.finding.proofs.FindingCalls.{finding-refused, finding-done}
 use Rattle.finding.proofs.findings.finding.Goals as goal
 
@@ -11,5 +12,5 @@ returns-in_err-extent c =
 
 pub returns : goal.returns
 returns c =
-    let (e, r) = entry_ready _ _ _ c.in_ok-extent.ensures in
+    let (e, r) = call-ok c.in_ok-extent.ensures in
     finding-done (sym (core-entry _ _ _ _ _ _) ∙ e) r c.find_in.ensures

@@ -1,6 +1,7 @@
 -- `harmonic` is refused on the way in, or finds among the links that are laid into the work table, which are all.
 use Rattle.std.proofs.Common.{rules, sym, ◌∙◌}
-use Rattle.cores.proofs.WayIn.{core-entry, entry-refused, entry_ready}
+use Rattle.network.proofs.Answers.{call-ok}
+use Rattle.cores.proofs.WayIn.{core-entry, entry-refused}
 use Rattle.cores.proofs.Everyone.{ones-refusal}
 use Rattle.harmonic.proofs.HarmonicCalls.{harmonic-refused, harmonic-done}
 use Rattle.harmonic.proofs.asks.harmonic.Goals as goal
@@ -12,5 +13,5 @@ returns-in_err-extent c =
 
 pub returns : goal.returns
 returns c =
-    let (e, r) = entry_ready _ _ _ c.in_ok-extent.ensures in
+    let (e, r) = call-ok c.in_ok-extent.ensures in
     harmonic-done (sym (core-entry _ _ _ _ _ _ ∙ ones-refusal _ _ _ _) ∙ e) r c.harmonic_in.ensures
