@@ -1,7 +1,7 @@
-/* Writes the network file of the links that are in both of two network files, such as vouchers and vouched keep of the same events. Each is
- * in a file that is named or on standard input if it is named by "-". Network W stands for a first file that is not named, and what others
- * recorded of the same month for a second one. On standard error it says how many links are in both, in the first only and in the second
- * only.
+/* Writes the network file of the links that are in both of two network files, such as vouchers and vouched keep of the same events: a file
+ * of version 2, with the first one's kinds. Each is in a file that is named or on standard input if it is named by "-". Network W stands
+ * for a first file that is not named, and what others recorded of the same month for a second one. On standard error it says how many
+ * links are in both, in the first only and in the second only.
  *
  *     cc -Iinclude examples/common.c target/staticlib/libcogsplice_c.a -o common
  *     ./common samples/given.vch samples/received.vch | bin/vouch-report
@@ -17,7 +17,7 @@ static const uint8_t others_of_w[] = {
 };
 
 static uint8_t first_room[ROOM], second_room[ROOM];
-static uint8_t out[COGSPLICE_FILE(COGSPLICE_LINKS)];
+static uint8_t out[COGSPLICE_FILE_OF_KINDS(COGSPLICE_LINKS)];
 
 int main(int argc, char **argv) {
     const char *names[2];
@@ -31,7 +31,7 @@ int main(int argc, char **argv) {
         print_refusal(found.refusal, found.link);
         return 0;
     }
-    write_network(out, found.both);
+    write_network(out, COGSPLICE_FILE_OF_KINDS(found.both));
     fprintf(stderr, "both %zu first %zu second %zu\n", found.both, found.first_only, found.second_only);
     return 0;
 }

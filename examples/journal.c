@@ -77,6 +77,6 @@ int main(int argc, char **argv) {
     for (size_t entry = 0; entry < length; entry++)
         if (numbers[entry] != 0)
             fprintf(stderr, "entry %zu refused %u\n", entry, (unsigned)numbers[entry]);
-    write_network(out, written.m);
+    write_network(out, COGSPLICE_FILE(written.m));
     return 0;
 }

@@ -12,6 +12,11 @@ static unsigned number_at(const uint8_t *file, size_t offset) {
     return file[offset] + 256u * file[offset + 1];
 }
 
+/* Where a link's voucher and vouched member stand: each link has four bytes, in version 2 five. */
+static const uint8_t *ends_of(const uint8_t *file, size_t link) {
+    return file + (number_at(file, 3) == 2 ? COGSPLICE_FILE_OF_KINDS(link) : COGSPLICE_FILE(link));
+}
+
 int main(int argc, char **argv) {
     size_t length;
     const uint8_t *file = network_file(argc, argv, &length);
@@ -28,7 +33,7 @@ int main(int argc, char **argv) {
         printf("layer %zu", layer);
         for (size_t link = 0; link < m; link++)
             if (layers[link] == layer)
-                printf(" %u>%u", number_at(file, COGSPLICE_FILE(link)), number_at(file, COGSPLICE_FILE(link) + 2));
+                printf(" %u>%u", number_at(ends_of(file, link), 0), number_at(ends_of(file, link), 2));
         printf("\n");
     }
     return 0;

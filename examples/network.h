@@ -13,8 +13,8 @@ static const uint8_t network_w[] = {
     2, 0, 3, 0, 2, 0, 4, 0, 4, 0, 5, 0, 5, 0, 5, 0,
 };
 
-/* Room for a network file, and for a byte more, by which one that is too long is told. */
-#define ROOM (COGSPLICE_FILE(COGSPLICE_LINKS) + 1)
+/* Room for a network file of either version, and for a byte more, by which one that is too long is told. */
+#define ROOM (COGSPLICE_FILE_OF_KINDS(COGSPLICE_LINKS) + 1)
 
 static inline void give_up(const char *why) {
     fprintf(stderr, "%s\n", why);
@@ -67,7 +67,8 @@ static inline const uint8_t *everyone(void) {
 
 static void print_refusal(uint16_t refusal, uint16_t link) {
     printf("refused %u", (unsigned)refusal);
-    if (refusal == COGSPLICE_REFUSED_END || refusal == COGSPLICE_REFUSED_REPEAT || refusal == COGSPLICE_REFUSED_ORDER)
+    if (refusal == COGSPLICE_REFUSED_END || refusal == COGSPLICE_REFUSED_KIND || refusal == COGSPLICE_REFUSED_REPEAT
+        || refusal == COGSPLICE_REFUSED_ORDER)
         printf(" at %u", (unsigned)link);
     printf("\n");
 }
@@ -92,9 +93,9 @@ static inline void print_pair(uint32_t edges, const uint8_t *s, size_t sources, 
     print_group("T", t, n);
 }
 
-/* The network file of m links, to standard output. */
-static inline void write_network(const uint8_t *file, size_t m) {
-    fwrite(file, 1, COGSPLICE_FILE(m), stdout);
+/* A network file of so many bytes, to standard output. */
+static inline void write_network(const uint8_t *file, size_t length) {
+    fwrite(file, 1, length, stdout);
     if (fflush(stdout) != 0 || ferror(stdout))
         give_up("standard output cannot be written");
 }

@@ -11,12 +11,17 @@ static const uint8_t w[] = {
     2, 0, 3, 0, 2, 0, 4, 0, 4, 0, 5, 0, 5, 0, 5, 0,
 };
 static const uint8_t nobody[] = {'V', 'C', 'H', 1, 0, 0, 0, 0, 0};
+/* The same in version 2: 6 members and a link of kind 7, and no member and no link. */
+static const uint8_t of_kinds[] = {'V', 'C', 'H', 2, 0, 6, 0, 1, 0, 0, 0, 3, 0, 7};
+static const uint8_t nobody_of_kinds[] = {'V', 'C', 'H', 2, 0, 0, 0, 0, 0};
 /* Of 2 members, the one entry adds the link from 0 to 1; and a journal without entries. */
 static const uint8_t one_entry[] = {'V', 'J', 'N', 1, 0, 2, 0, COGSPLICE_ENTRY_ADD, 0, 0, 1, 0};
 static const uint8_t no_entry[] = {'V', 'J', 'N', 1, 0, 2, 0};
 
 #define W w, sizeof w
 #define NOBODY nobody, sizeof nobody
+#define OF_KINDS of_kinds, sizeof of_kinds
+#define NOBODY_OF_KINDS nobody_of_kinds, sizeof nobody_of_kinds
 #define ONE_ENTRY one_entry, sizeof one_entry
 #define NO_ENTRY no_entry, sizeof no_entry
 #define NONE NULL, 0
@@ -41,6 +46,7 @@ static void no_table(void) {
     EXPECT(9, cogsplice_count(W, NONE, ALL(t)));
     EXPECT(9, cogsplice_count(W, ALL(s), NONE));
     EXPECT(9, cogsplice_write(W, NONE));
+    EXPECT(9, cogsplice_write(OF_KINDS, NONE));
     EXPECT(9, cogsplice_order(W, NONE));
     EXPECT(9, cogsplice_index(W, NONE, ALL(rows), ALL(other_starts), ALL(other_rows)));
     EXPECT(9, cogsplice_index(W, ALL(starts), NONE, ALL(other_starts), ALL(other_rows)));
@@ -73,6 +79,7 @@ static void no_table(void) {
     EXPECT(9, cogsplice_harmonic(W, ALL(s), NONE, ALL(work)));
     EXPECT(9, cogsplice_harmonic(W, ALL(s), ALL(t), NONE));
     EXPECT(9, cogsplice_common(W, W, NONE));
+    EXPECT(9, cogsplice_common(OF_KINDS, OF_KINDS, NONE));
 }
 
 /* Of a network without members and links, groups, rows and layers of no entries are long enough. */
@@ -80,7 +87,6 @@ static void enough(const uint8_t *file, size_t length) {
     EXPECT(0, cogsplice_check(file, length));
     EXPECT(0, cogsplice_count(file, length, NONE, NONE));
     EXPECT(0, cogsplice_write(file, length, ALL(out)));
-    EXPECT(0, cogsplice_order(file, length, ALL(out)));
     EXPECT(0, cogsplice_index(file, length, ALL(starts), NONE, ALL(other_starts), NONE));
     EXPECT(0, cogsplice_core(file, length, NONE, NONE, 1, 1, NONE, NONE, ALL(work)));
     EXPECT(0, cogsplice_level(file, length, NONE, NONE, 1, ALL(work)));
@@ -96,7 +102,6 @@ static void enough(const uint8_t *file, size_t length) {
 /* Outputs, starts and work tables of no entries are too short for every network. */
 static void not_enough(const uint8_t *file, size_t length) {
     EXPECT(9, cogsplice_write(file, length, NONE));
-    EXPECT(9, cogsplice_order(file, length, NONE));
     EXPECT(9, cogsplice_index(file, length, NONE, NONE, ALL(other_starts), NONE));
     EXPECT(9, cogsplice_index(file, length, ALL(starts), NONE, NONE, NONE));
     EXPECT(9, cogsplice_core(file, length, NONE, NONE, 1, 1, NONE, NONE, NONE));
@@ -108,6 +113,16 @@ static void not_enough(const uint8_t *file, size_t length) {
     EXPECT(9, cogsplice_harmonic(file, length, NONE, NONE, NONE));
     EXPECT(9, cogsplice_common(file, length, NOBODY, NONE));
     EXPECT(9, cogsplice_common(NOBODY, file, length, NONE));
+}
+
+/* Version 2 is refused before its output is looked at. */
+static void order(void) {
+    EXPECT(0, cogsplice_order(NOBODY, ALL(out)));
+    EXPECT(0, cogsplice_order(NONE, ALL(out)));
+    EXPECT(9, cogsplice_order(NOBODY, NONE));
+    EXPECT(9, cogsplice_order(NONE, NONE));
+    EXPECT(3, cogsplice_order(OF_KINDS, NONE));
+    EXPECT(3, cogsplice_order(NOBODY_OF_KINDS, NONE));
 }
 
 static void row(unsigned refusal, bool side, const uint16_t *table, size_t length) {
@@ -156,13 +171,13 @@ static void equal(void) {
     expect("nobody and others: equal", false, cogsplice_equal_findings(2, 3, 0, NONE, NONE, 2, 3, 6, ALL(s), ALL(t)).equal);
 }
 
-/* Of no bytes twice the file is nobody's, of 9 bytes, and 21 comes before 9. */
+/* Of no bytes twice the file is nobody's in version 2, of 9 bytes, and 21 comes before 9. */
 static void common(void) {
-    uint8_t written[COGSPLICE_FILE(0)] = {0};
+    uint8_t written[COGSPLICE_FILE_OF_KINDS(0)] = {0};
     struct cogsplice_common_numbers told = cogsplice_common(NONE, NONE, ALL(written));
     expect("nothing twice", 0, told.refusal);
     expect("nothing twice: totals", 0, (unsigned)(told.both + told.first_only + told.second_only));
-    expect("nothing twice: nobody's file", true, memcmp(written, nobody, sizeof nobody) == 0);
+    expect("nothing twice: nobody's file", true, memcmp(written, nobody_of_kinds, sizeof nobody_of_kinds) == 0);
     EXPECT(9, cogsplice_common(NONE, NONE, written, sizeof written - 1));
     EXPECT(9, cogsplice_common(NONE, NONE, NONE));
     EXPECT(21, cogsplice_common(W, NONE, NONE));
@@ -176,6 +191,9 @@ int main(void) {
     /* No bytes count as that network's file. */
     enough(NONE);
     not_enough(NONE);
+    enough(NOBODY_OF_KINDS);
+    not_enough(NOBODY_OF_KINDS);
+    order();
     rows_of(COGSPLICE_VOUCHER);
     rows_of(COGSPLICE_VOUCHED);
     journal();

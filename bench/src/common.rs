@@ -1,9 +1,9 @@
 //! The call on two files: its sides, the comparison of their answers, and their times.
-use crate::inputs::{Input, Links};
+use crate::inputs::{in_version_2, length_of_kinds, Input, Links};
 use crate::measure::{damaged, least_times, opaque};
-use crate::plain::{by_blocks, by_branches, by_steps, Merge, Plain};
+use crate::plain::{Merge, Plain};
 use crate::records::Records;
-use cogsplice::{file_length, lent};
+use cogsplice::lent;
 
 /// Two files, and the time of one call on each side, in microseconds.
 pub struct Shared {
@@ -35,9 +35,9 @@ enum Side {
 /// The sides, the library first.
 const SIDES: [Side; 4] = [
     Side::Library,
-    Side::Plain(by_blocks),
-    Side::Plain(by_steps),
-    Side::Plain(by_branches),
+    Side::Plain(Merge::Blocks),
+    Side::Plain(Merge::Steps),
+    Side::Plain(Merge::Branches),
 ];
 
 impl Side {
@@ -82,6 +82,7 @@ fn compare_refusal(files: [&[u8]; 2], length: usize, number: usize) {
 /// Compares the answers of all sides, then times them.
 pub fn share(records: Records) -> Shared {
     compare(&records);
+    compare_kinds(&records);
     compare_lengths(&records);
     compare_faults(&records);
     let [library, plain, steps, branches] = time(&records);
@@ -105,21 +106,55 @@ fn compare(records: &Records) {
         assert!(agreed([second, first], longest, full) == (told, out));
         for file in [first, second] {
             let (_, out) = agreed([file, file], longest, full);
-            assert!(out == file, "a file with itself");
+            assert!(out == in_version_2(file), "a file with itself");
         }
     }
     let empty = [&first[..5], &[0; 4]].concat();
     for other in [&[][..], &empty] {
         let (_, out) = agreed([other, &[]], empty.len(), 255);
-        assert!(out == empty, "two files without members");
+        assert!(out == in_version_2(&empty), "two files without members");
         compare_refusal([first, other], 0, 21);
         compare_refusal([other, second], 0, 21);
     }
 }
 
+/// The first file beside its links in other kinds: only kinds 0 and 1 are of equal weight. The kinds written are those of the first.
+fn compare_kinds(records: &Records) {
+    let (first, longest) = (in_version_2(records.in_order()[0]), records.longest());
+    let with = |kind: fn(u8) -> u8| {
+        let mut file = first.clone();
+        for link in file[9..].chunks_mut(5) {
+            link[4] = kind(link[4]);
+        }
+        file
+    };
+    for (file, is_one) in [
+        (with(|kind| kind ^ u8::from(kind < 2)), true),
+        (with(|kind| kind ^ 4), false),
+    ] {
+        let (told, out) = agreed([&first, &file], longest, 255);
+        assert_eq!(told[0], 0);
+        assert!((told[2] == records.links()) == is_one);
+        assert!((out == first) == is_one);
+    }
+    // Links of version 1 are such of kind 0.
+    let zero = with(|_| 0);
+    let narrow = narrowed(&first);
+    assert!(agreed([&first, &narrow], longest, 255) == agreed([&first, &zero], longest, 255));
+    assert!(agreed([&narrow, &first], longest, 255) == agreed([&zero, &first], longest, 255));
+}
+
+/// The file of the same links in version 1.
+fn narrowed(file: &[u8]) -> Vec<u8> {
+    let mut narrow = file[..9].to_vec();
+    narrow[3] = 1;
+    narrow.extend(file[9..].chunks(5).flat_map(|link| &link[..4]));
+    narrow
+}
+
 /// The output needs the length of the file that is written.
 fn compare_lengths(records: &Records) {
-    let (files, length) = (records.in_order(), file_length(records.both));
+    let (files, length) = (records.in_order(), length_of_kinds(records.both));
     for longer in [length, length + 5] {
         let (told, _) = agreed(files, longer, 255);
         assert_eq!(told[0], 0);

@@ -1,5 +1,5 @@
 //! The networks that are measured, the same in every run.
-use networks::{encode, Draw, Link, Network};
+use networks::{Draw, Link, Network};
 
 /// How the links of a file stand.
 #[derive(Clone, Copy, PartialEq, Eq)]
@@ -34,8 +34,12 @@ impl Links {
 #[derive(Clone)]
 pub struct Input {
     pub name: String,
+    /// The version of its files.
+    pub version: u8,
     pub n: usize,
     pub m: usize,
+    /// The links, in random order.
+    links: Vec<Link>,
     ascending: Vec<u8>,
     shuffled: Vec<u8>,
     repeating: Vec<u8>,
@@ -48,19 +52,18 @@ pub struct Input {
 }
 
 impl Input {
-    /// The network of links in random order, searched with everyone in A and B.
+    /// The network of links in random order, of version 1, searched with everyone in A and B.
     pub fn new(name: &str, n: usize, links: Vec<Link>, random: &mut Draw) -> Self {
         let mut group = || (0..n).map(|_| random.below(2) as u8).collect();
-        let (m, mut network) = (links.len(), Network { n, links });
-        let shuffled = encode(&network);
-        let mut repeating = shuffled.clone();
-        repeating.copy_within(9..13, shuffled.len() - 4);
-        network.links.sort_unstable();
+        let of_kind_0 = links.iter().map(|&link| (link, 0));
+        let [ascending, shuffled, repeating] = files(1, n, of_kind_0.collect());
         Self {
             name: name.to_string(),
+            version: 1,
             n,
-            m,
-            ascending: encode(&network),
+            m: links.len(),
+            links,
+            ascending,
             shuffled,
             repeating,
             a: vec![1; n],
@@ -68,6 +71,24 @@ impl Input {
             s: group(),
             t: group(),
         }
+    }
+
+    /// The same network with a kind for each link, of version 2.
+    pub fn with_kinds(&self, mut kind: impl FnMut() -> u8) -> Self {
+        let links = self.links.iter().map(|&link| (link, kind()));
+        let [ascending, shuffled, repeating] = files(2, self.n, links.collect());
+        Self {
+            version: 2,
+            ascending,
+            shuffled,
+            repeating,
+            ..self.clone()
+        }
+    }
+
+    /// How many bytes a link has in the files.
+    pub fn stride(&self) -> usize {
+        stride(self.version)
     }
 
     /// The file in which the links stand so.
@@ -89,6 +110,53 @@ impl Input {
             ..self.clone()
         }
     }
+}
+
+/// The file of links in order, that in which they stand as they do here, and that in which the last is the same as the first.
+fn files(version: u8, n: usize, mut links: Vec<(Link, u8)>) -> [Vec<u8>; 3] {
+    let shuffled = encode(version, n, &links);
+    let (mut repeating, stride) = (shuffled.clone(), stride(version));
+    repeating.copy_within(9..9 + stride, shuffled.len() - stride);
+    links.sort_unstable();
+    [encode(version, n, &links), shuffled, repeating]
+}
+
+/// The bytes of a file of links with their kinds, which only version 2 has.
+fn encode(version: u8, n: usize, links: &[(Link, u8)]) -> Vec<u8> {
+    let number = |number: usize| (number as u16).to_le_bytes();
+    let mut file = b"VCH".to_vec();
+    for number in [usize::from(version), n, links.len()].map(number) {
+        file.extend(number);
+    }
+    for &((voucher, vouched), kind) in links {
+        file.extend(number(voucher));
+        file.extend(number(vouched));
+        file.extend((version == 2).then_some(kind));
+    }
+    file
+}
+
+fn stride(version: u8) -> usize {
+    3 + usize::from(version)
+}
+
+/// The length in bytes of a file of version 2 of m links.
+pub fn length_of_kinds(m: usize) -> usize {
+    9 + stride(2) * m
+}
+
+/// The file of the same links in version 2, where those of version 1 have kind 0.
+pub fn in_version_2(file: &[u8]) -> Vec<u8> {
+    if file[3] == 2 {
+        return file.to_vec();
+    }
+    let mut wide = file[..9].to_vec();
+    wide[3] = 2;
+    for link in file[9..].chunks(4) {
+        wide.extend(link);
+        wide.push(0);
+    }
+    wide
 }
 
 /// A member below `end`, member a with a chance that falls as a^(-2/3).
@@ -186,6 +254,14 @@ fn rings(product: usize, random: &mut Draw) -> Vec<Link> {
 
 /// The shapes that are searched among half of their members too.
 pub const HALVED: [&str; 2] = ["random", "planted pair of 40 and 30"];
+
+/// The shapes that are measured with kinds too.
+pub const OF_KINDS: [&str; 4] = [
+    "random",
+    "power law",
+    "planted pair of 40 and 30",
+    "block of 90 by 90",
+];
 
 /// Networks of many shapes.
 pub fn shapes() -> Vec<Input> {

@@ -14,9 +14,10 @@ mod sides;
 use common::share;
 use equal::compare;
 use follow::follow;
-use inputs::{growing, shapes, HALVED};
+use inputs::{growing, shapes, HALVED, OF_KINDS};
 use journals::journals;
-use measure::{measure, Halved};
+use measure::{measure, Halved, Measured, OfKinds};
+use networks::Draw;
 use pairs::pairs;
 use records::records;
 use sides::{Call, Timed};
@@ -37,12 +38,35 @@ fn main() -> std::io::Result<()> {
             half: measure(whole.input.half(), &Call::INSIDE.map(Timed::ascending)),
         })
         .collect();
+    let kinds: Vec<_> = shapes
+        .iter()
+        .filter(|one| OF_KINDS.contains(&&one.input.name[..]))
+        .map(of_kinds)
+        .collect();
     let growth = all(growing());
     let journals: Vec<_> = journals().into_iter().map(follow).collect();
     let pairs: Vec<_> = pairs().into_iter().map(compare).collect();
-    let records = records().map(share);
-    let text = report::report(&shapes, &halves, &growth, &journals, &pairs, &records);
+    let records: Vec<_> = records().into_iter().map(share).collect();
+    let text = report::report(
+        &shapes, &halves, &kinds, &growth, &journals, &pairs, &records,
+    );
     print!("{text}");
     let page = Path::new(env!("CARGO_MANIFEST_DIR")).join("../docs/BENCHMARKS.md");
     std::fs::write(page, text)
+}
+
+/// A network with kind 0 alone, with kinds drawn, and with kind 7 alone.
+fn of_kinds(single: &Measured) -> OfKinds<'_> {
+    let random = &mut Draw::new(6);
+    let lightest = single.input.with_kinds(|| 0);
+    let drawn = single.input.with_kinds(|| random.below(8) as u8);
+    let heaviest = single.input.with_kinds(|| 7);
+    let [lightest, drawn, heaviest] =
+        [lightest, drawn, heaviest].map(|input| measure(input, &Timed::of_kinds()));
+    OfKinds {
+        single,
+        lightest,
+        drawn,
+        heaviest,
+    }
 }

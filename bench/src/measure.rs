@@ -9,6 +9,11 @@ pub const ROUNDS: usize = 60;
 /// How long one side runs in a round, at the least.
 pub const ROUND: Duration = Duration::from_millis(2);
 
+/// No round begins once the rounds took this long, but for the least number of them.
+pub const ROUNDS_TIME: Duration = Duration::from_secs(2);
+
+pub const LEAST_ROUNDS: usize = 8;
+
 /// The time of one call, in microseconds.
 pub struct Times {
     pub timed: Timed,
@@ -48,14 +53,43 @@ pub struct Halved<'a> {
     pub half: Measured,
 }
 
+/// A network with kinds, beside the same links in version 1.
+pub struct OfKinds<'a> {
+    pub single: &'a Measured,
+    /// Every link has kind 0, of weight 1.
+    pub lightest: Measured,
+    pub drawn: Measured,
+    /// Every link has kind 7, of the greatest weight.
+    pub heaviest: Measured,
+}
+
+impl OfKinds<'_> {
+    /// Each with the kinds that its links have.
+    pub fn all(&self) -> [(&'static str, &Measured); 3] {
+        [
+            ("all 0", &self.lightest),
+            ("drawn", &self.drawn),
+            ("all 7", &self.heaviest),
+        ]
+    }
+}
+
+/// The library's time of a call on the one, divided by that on the other.
+pub fn library_ratio(call: Call, one: &Measured, other: &Measured) -> f64 {
+    let timed = Timed::ascending(call);
+    one.of(timed).library / other.of(timed).library
+}
+
 /// Compares the answers of both sides, then times these calls.
 pub fn measure(input: Input, calls: &[Timed]) -> Measured {
     let mut library = Library::new(&input);
     let mut plain = PlainRust::new(&input);
     let file = input.file(Links::Ascending);
     let quiet = [&file[..7], &[0, 0]].concat();
-    // While no table holds the ascending file yet.
-    compare_order(&mut library, &mut plain, &input);
+    if input.version == 1 {
+        // While no table holds the ascending file yet.
+        compare_order(&mut library, &mut plain, &input);
+    }
     // The whole file first: after it no entry of the tables is as it was lent.
     for file in [file, &quiet, &[]] {
         compare(&mut library, &mut plain, file, &input);
@@ -89,6 +123,7 @@ fn compare(library: &mut Library, plain: &mut PlainRust, file: &[u8], input: &In
     // The core, the finding and the harmonic call write to the same groups: the tables are compared after each of the three.
     for last in [Call::Core, Call::Finding, Call::Harmonic] {
         let others = Call::ALL.into_iter().filter(|&call| call != last);
+        let others = others.filter(|call| call.reads(input.version));
         for call in others.chain([last]) {
             let told = library.call(call, file, input);
             let (name, network) = (call.name(), &input.name);
@@ -101,38 +136,97 @@ fn compare(library: &mut Library, plain: &mut PlainRust, file: &[u8], input: &In
     }
 }
 
+/// A copy of a file with some bytes changed.
+fn changed(file: &[u8], changes: &[(usize, u8)]) -> Vec<u8> {
+    let mut copy = file.to_vec();
+    for &(at, byte) in changes {
+        copy[at] = byte;
+    }
+    copy
+}
+
 /// Damaged files, each with the refusal that it must get.
 pub fn damaged(input: &Input) -> Vec<(usize, Vec<u8>)> {
     let file = input.file(Links::Ascending);
     let mut damaged = vec![
         (1, file[..8].to_vec()),
         (6, file[..file.len() - 1].to_vec()),
+        (6, changed(file, &[(3, 3 - input.version)])),
         (8, input.file(Links::Repeating).to_vec()),
         (15, input.file(Links::Shuffled).to_vec()),
     ];
-    for (number, at, byte) in [(2, 2, 0), (3, 3, 3), (4, 6, 255), (5, 8, 255), (7, 12, 255)] {
-        let mut copy = file.to_vec();
-        copy[at] = byte;
-        damaged.push((number, copy));
+    damaged.extend(DAMAGES.map(|(number, at, byte)| (number, changed(file, &[(at, byte)]))));
+    damaged.extend(disordered(file, input.stride()));
+    if input.version == 2 {
+        damaged.extend(damaged_kinds(file));
     }
-    // The last link as the first, as the one preceding it, and before the one preceding it.
-    let last = file.len() - 4;
-    let mut copies = [(); 3].map(|_| file.to_vec());
-    copies[0].copy_within(9..13, last);
-    copies[1].copy_within(last - 4..last, last);
-    copies[2][last - 4..].rotate_left(4);
-    damaged.extend([8, 8, 15].into_iter().zip(copies));
     damaged
 }
 
-/// Each damaged file gets its refusal from both sides, but that `order` knows no 15, and no table changes.
+/// Refusals, each with a byte of a file that makes it.
+const DAMAGES: [(usize, usize, u8); 7] = [
+    (2, 2, 0),
+    (3, 3, 0),
+    (3, 3, 3),
+    (3, 4, 1),
+    (4, 6, 255),
+    (5, 8, 255),
+    (7, 12, 255),
+];
+
+/// Files whose last link is the same as the first, is the same as the one preceding it, and stands before the one preceding it.
+fn disordered(file: &[u8], stride: usize) -> [(usize, Vec<u8>); 3] {
+    let last = file.len() - stride;
+    let mut copies = [(); 3].map(|_| file.to_vec());
+    copies[0].copy_within(9..9 + stride, last);
+    copies[1].copy_within(last - stride..last, last);
+    copies[2][last - stride..].rotate_left(stride);
+    let [first, preceding, turned] = copies;
+    [(8, first), (8, preceding), (15, turned)]
+}
+
+/// Files of version 2 with kinds above 7, and one whose last link is the first with another kind.
+fn damaged_kinds(file: &[u8]) -> [(usize, Vec<u8>); 5] {
+    let (first, last) = (13, file.len() - 1);
+    let [(_, repeating), ..] = disordered(file, 5);
+    let another = (repeating[last] + 1) % 8;
+    [
+        (22, changed(file, &[(first, 8)])),
+        (22, changed(file, &[(last, 255)])),
+        (22, changed(&repeating, &[(last, 8)])),
+        (7, changed(file, &[(first - 1, 255), (first, 8)])),
+        (8, changed(&repeating, &[(last, another)])),
+    ]
+}
+
+/// The refusal that a call gives for a file that gets this number. `order` reads version 1 only, and knows no 15.
+fn refusal_of(call: Call, number: usize, file: &[u8]) -> usize {
+    if call != Call::Order || number == 1 || number == 2 {
+        return number;
+    }
+    if file[3..5] != [1, 0] {
+        return 3;
+    }
+    if number == 15 {
+        return 0;
+    }
+    number
+}
+
+/// Each damaged file gets its refusal from both sides, and no table changes.
 fn compare_refusals(library: &mut Library, plain: &mut PlainRust, input: &Input) {
-    for (number, file) in damaged(input) {
+    let mut files = damaged(input);
+    if input.version == 2 {
+        // Only `order` refuses it.
+        files.push((0, input.file(Links::Ascending).to_vec()));
+    }
+    for (number, file) in files {
         for call in Call::ALL {
             let told = library.call(call, &file, input);
             assert_eq!(told, plain.call(call, &file, input));
-            let accepts = number == 15 && call == Call::Order;
-            assert_eq!(told[0], if accepts { 0 } else { number });
+            let (name, network) = (call.name(), &input.name);
+            let refusal = refusal_of(call, number, &file);
+            assert_eq!(told[0], refusal, "{name} of a damaged {network}");
         }
     }
     let same = library.tables() == plain.tables();
@@ -178,7 +272,11 @@ pub fn least_times<const K: usize>(mut sides: [&mut dyn FnMut(); K]) -> [f64; K]
         .map(|call| calls_in_a_round(call))
         .collect();
     let mut least = [f64::INFINITY; K];
-    for _ in 0..ROUNDS {
+    let start = Instant::now();
+    for round in 0..ROUNDS {
+        if round >= LEAST_ROUNDS && start.elapsed() >= ROUNDS_TIME {
+            break;
+        }
         for ((least, call), &calls) in least.iter_mut().zip(&mut sides).zip(&in_a_round) {
             *least = least.min(time_of(call, calls));
         }

@@ -1,6 +1,5 @@
 //! The pairs of files whose common links are looked for, the same in every run.
-use crate::inputs::{uniform, Input, Links};
-use cogsplice::file_length;
+use crate::inputs::{length_of_kinds, uniform, Input, Links};
 use networks::Draw;
 
 const MEMBERS: usize = 2048;
@@ -23,6 +22,18 @@ impl Records {
         Self { name, both, files }
     }
 
+    /// The same links with drawn kinds, those in both files with the same kind in both.
+    fn with_kinds(self, random: &mut Draw) -> Self {
+        let own = self.own();
+        let kinds: Vec<u8> = (0..LINKS + own).map(|_| random.below(8) as u8).collect();
+        let [first, second] = self.files;
+        let files = [(first, 0), (second, own)].map(|(file, from)| {
+            let mut kinds = kinds[from..].iter();
+            file.with_kinds(|| *kinds.next().expect("there is a kind for each link"))
+        });
+        Self { files, ..self }
+    }
+
     pub fn in_order(&self) -> [&[u8]; 2] {
         let [first, second] = &self.files;
         [first, second].map(|file| file.file(Links::Ascending))
@@ -33,20 +44,36 @@ impl Records {
         LINKS - self.both
     }
 
-    /// The length of either file.
+    /// The number of links in either file.
+    pub fn links(&self) -> usize {
+        LINKS
+    }
+
+    /// The length of either file in version 2.
     pub fn longest(&self) -> usize {
-        file_length(LINKS)
+        length_of_kinds(LINKS)
+    }
+
+    /// The version of both files.
+    pub fn version(&self) -> u8 {
+        self.files[0].version
     }
 }
 
-/// Pairs of files of full size, from such as agree to such as share nothing.
-pub fn records() -> [Records; 4] {
+/// Pairs of files of full size, from such as agree to such as share nothing, and one with kinds.
+pub fn records() -> Vec<Records> {
     let random = &mut Draw::new(5);
-    [
+    let pairs = [
         ("all", LINKS),
         ("all but eight", LINKS - 8),
         ("half of them", LINKS / 2),
         ("none", 0),
-    ]
-    .map(|(name, both)| Records::new(name, both, random))
+    ];
+    let pairs = pairs.into_iter();
+    let mut records: Vec<_> = pairs
+        .map(|(name, both)| Records::new(name, both, random))
+        .collect();
+    let half = Records::new("half of them", LINKS / 2, random);
+    records.push(half.with_kinds(random));
+    records
 }

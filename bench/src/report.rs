@@ -3,7 +3,9 @@ use crate::common::Shared;
 use crate::equal::Compared;
 use crate::follow::Followed;
 use crate::inputs::Links;
-use crate::measure::{Halved, Measured, Times, ROUND, ROUNDS};
+use crate::measure::{
+    library_ratio, Halved, Measured, OfKinds, Times, LEAST_ROUNDS, ROUND, ROUNDS, ROUNDS_TIME,
+};
 use crate::sides::{Call, Timed};
 use std::fmt::Write;
 use std::process::Command;
@@ -39,6 +41,9 @@ const GOALS: [Goal; 12] = [
     goal(Call::Order, false, 1.5),
 ];
 
+/// The same for the library's time where every link has kind 7, divided by its time where every link has kind 0.
+const HEAVIEST_MOST: f64 = 2.0;
+
 /// The same for the journals.
 const JOURNAL_MOST: f64 = 1.2;
 
@@ -52,6 +57,7 @@ const COMMON_MOST: f64 = 1.2;
 pub fn report(
     shapes: &[Measured],
     halves: &[Halved],
+    kinds: &[OfKinds],
     growth: &[Measured],
     journals: &[Followed],
     pairs: &[Compared],
@@ -59,6 +65,7 @@ pub fn report(
 ) -> String {
     let goals = [
         goal_table(shapes, halves, growth),
+        kind_goals(kinds),
         journal_goal(journals),
         equal_goal(pairs),
         common_goal(records),
@@ -67,6 +74,7 @@ pub fn report(
         ("Goals", goals.concat()),
         ("Times", time_table(shapes)),
         ("Half of the members", half_table(halves)),
+        ("Kinds of vouch", kind_table(kinds)),
         ("Links in any order", order_table(shapes)),
         ("Journals", journal_table(journals)),
         ("Two findings compared", equal_table(pairs)),
@@ -85,7 +93,7 @@ fn how_measured() -> String {
         version_of("rt", "version"),
         version_of("rustc", "--version"),
     );
-    let round = ROUND.as_millis();
+    let (round, most) = (ROUND.as_millis(), ROUNDS_TIME.as_secs());
     format!(
         "The proved library against the same calls in plain Rust (`bench/src/plain.rs`), in one run of
 `cargo run --release --manifest-path bench/Cargo.toml`, which writes this page.
@@ -98,24 +106,31 @@ fn how_measured() -> String {
 Before the calls on a network are timed, both sides must give the same answers, the same tables, and the same refusals of damaged files
 and of a faulty A or B; before a journal is, the same after none, some and all of its entries, and the same refusals of damaged ones and of
 short tables; before two findings are compared, the same answer, and the same refusals where n is too large, a table too short or a group
-faulty in either or both; before the links in both of two files are looked for, the same file and numbers either way round, and the same
-refusals of each damaged file beside each, of two n that differ and of short outputs.
-Then each call is timed, the two sides turn by turn, in {ROUNDS} rounds of at least {round} ms for each side. The least time of one
-call counts, in microseconds, or in nanoseconds where two findings are compared. The ratio is the library's time divided by that of plain
-Rust.
+faulty in either or both; before the links in both of two files are looked for, the same file and numbers either way round, with other kinds
+and of two versions, and the same refusals of each damaged file beside each, of two n that differ and of short outputs.
+Then each call is timed, the two sides turn by turn, in {ROUNDS} rounds of at least {round} ms for each side, or, once these took {most} s,
+in as many as were made by then, {LEAST_ROUNDS} at least. The least time of one call counts, in microseconds, or in nanoseconds where two
+findings are compared. The ratio is the library's time divided by that of plain Rust.
 
-Both sides check the file in every call, run in one thread, and write to tables that are lent to them. Nothing clears these tables
-between calls. What plain Rust sorts and peels in is kept from call to call, so that no allocation is timed. It sorts links only where
-they do not ascend, and ends a peel as soon as a side is empty. Library and plain Rust both take the level of 1 from the longest
-row, and begin a climb with the side that rises. Both ask first whether everyone is in A and B, and else list the links from A to B in
-one pass and search among these; for the layers plain Rust takes those that have a layer from the list, and searches the others anew for
-each layer. For the harmonic measure both find the next place to drop by a tree of matches over the places, in which a place whose
-degree fell plays only up to the first match that it loses; plain Rust has the leaves of the tree in a table too, and stops dropping
-where no link is left. For a journal plain Rust has the links present in a sorted vector, each as a number of 32 bits that orders them, and
-so each named state, with the totals live and due beside each. It finds a link by binary search, and by two more among the 64 links on
-either side how many its voucher has given; it has no table of the members. It moves what lies behind a link in one piece, and copies a
-state in one piece, all in memory that is kept from call to call.
-Everyone is in A and B, but for the table of half of the members. Links ascend, unless it is said that they stand in random order.
+Both sides check the file in every call, run in one thread, and write to tables that are lent to them. Nothing clears these tables between
+calls. What plain Rust sorts and peels in is kept from call to call, so that no allocation is timed. It sorts links only where they do not
+ascend, and ends a peel as soon as a side is empty. Its code is compiled for each version of the file by itself: for version 1, in which
+each link weighs 1, no loop has a weight. For version 2 it checks the links in one pass, and an entry of a row has the weight beside the
+place; the library's rows have it so for both versions. Both keep the degrees of the whole network, with which each peel begins. Library and
+plain Rust both take the level of 1 from the heaviest place, and begin a climb with the side that rises. The finding both search by rows of
+one x and columns of one y, from the equal level down: a peel goes on from each pair that is left, by the least degrees, to what would be
+better, until a side is empty. Where each link weighs 1 they try each row by itself; else many together, the library a quarter of those that
+are left, or, where all weigh the same, those in which no core changes, and plain Rust a third. In a climb by small steps, where weights
+differ from 1, the library passes over 32 places together where none falls short, and plain Rust over 16. Both ask first whether everyone is
+in A and B, and else list the links from A to B in one pass and search among these; for the layers plain Rust takes those that have a layer
+from the list, and searches the others anew for each layer. For the harmonic measure both find the next place to drop by a tree of matches
+over the places, in which a place whose degree fell plays only up to the first match that it loses; plain Rust has the leaves of the tree in
+a table too, and stops dropping where no link is left. For a journal plain Rust has the links present in a sorted vector, each as a number
+of 32 bits that orders them, and so each named state, with the totals live and due beside each. It finds a link by binary search, and by two
+more among the 64 links on either side how many its voucher has given; it has no table of the members. It moves what lies behind a link in
+one piece, and copies a state in one piece, all in memory that is kept from call to call.
+Everyone is in A and B, but for the table of half of the members. Links ascend, unless it is said that they stand in random order. Files are
+of version 1, but for those that are called of version 2.
 "
     )
 }
@@ -133,6 +148,35 @@ fn goal_table(shapes: &[Measured], halves: &[Halved], growth: &[Measured]) -> St
             false => format!("{}, links in any order", goal.call.name()),
         };
         add(&mut text, &goal_line(&call, goal.most, ratios));
+    }
+    text
+}
+
+/// The goals of the calls on files in order for version 2, then those of the library's times where every link has kind 7.
+fn kind_goals(networks: &[OfKinds]) -> String {
+    let goals = GOALS
+        .iter()
+        .filter(|goal| goal.in_order && goal.call.reads(2));
+    let mut text = String::new();
+    for goal in goals.clone() {
+        let timed = Timed::ascending(goal.call);
+        let ratios = networks.iter().flat_map(OfKinds::all).map(|(kinds, one)| {
+            let name = format!("{}, kinds {kinds}", one.input.name);
+            (one.of(timed).ratio(), name)
+        });
+        let call = format!("{}, version 2", goal.call.name());
+        add(&mut text, &goal_line(&call, goal.most, ratios.collect()));
+    }
+    for goal in goals {
+        let ratios = networks.iter().map(|of| {
+            let ratio = library_ratio(goal.call, &of.heaviest, &of.lightest);
+            (ratio, of.single.input.name.clone())
+        });
+        let call = format!("{}, kind 7 beside kind 0", goal.call.name());
+        add(
+            &mut text,
+            &goal_line(&call, HEAVIEST_MOST, ratios.collect()),
+        );
     }
     text
 }
@@ -159,7 +203,16 @@ fn equal_goal(pairs: &[Compared]) -> String {
 fn common_goal(records: &[Shared]) -> String {
     let ratios = records
         .iter()
-        .map(|one| (one.ratio(), format!("in both: {}", one.records.name)))
+        .map(|one| {
+            (
+                one.ratio(),
+                format!(
+                    "in both: {}, version {}",
+                    one.records.name,
+                    one.records.version()
+                ),
+            )
+        })
         .collect();
     goal_line("common", COMMON_MOST, ratios) + "\n"
 }
@@ -223,6 +276,35 @@ fn half_table(halves: &[Halved]) -> String {
                     &mut text,
                     &format!("| {network} | {name} | {who} | {layers} | {cells} |"),
                 );
+            }
+        }
+    }
+    text
+}
+
+/// The networks with kinds, and beside them the library's times on the same links in version 1.
+fn kind_table(networks: &[OfKinds]) -> String {
+    let mut text = "Files of version 2, with five bytes for each link, the last its kind: the same links as in the networks above, all of kind 0, with a kind
+drawn for each from 0 to 7, or all of kind 7, which weighs 12. Degrees and E are sums of weights, so that the levels that are climbed are
+higher than the numbers of links. Where all links have kind 7 every core is one of the same links with kind 0, and x and y are 12 times as
+great; with drawn kinds there are many more layers. Beside the two sides stand the library's time on the same links in version 1, in which
+all have kind 0, and how many times that version 2 takes. The goal for all of kind 7 is at most twice the time with kind 0 alone, in version
+2 both. `order` reads version 1 only.
+
+| Network | Kinds | Layers | Call | Library (µs) | Plain Rust (µs) | Ratio | Library, version 1 (µs) | Version 2 to 1 |
+|---|---|---|---|---|---|---|---|---|
+".to_string();
+    for of in networks {
+        for (kinds, one) in of.all() {
+            let (name, layers) = (&one.input.name, one.layers);
+            for timed in Timed::of_kinds() {
+                let cells = cells(one.of(timed));
+                let (call, single) = (timed.call.name(), of.single.of(timed).library);
+                let ratio = library_ratio(timed.call, one, of.single);
+                let line = format!(
+                    "| {name} | {kinds} | {layers} | {call} | {cells} | {single:.1} | {ratio:.2} |"
+                );
+                add(&mut text, &line);
             }
         }
     }
@@ -303,21 +385,24 @@ compares the groups before it tests them, and where they agree tests those of on
 
 /// The pairs of files, with plain Rust that looks for the links in both by simpler means beside the two sides.
 fn common_table(records: &[Shared]) -> String {
-    let mut text = "Each file has bytes of its own, 2,048 members and 8,192 links, all drawn; two files that share all links have the same bytes. The output
-is as long as either file. Both sides check both files before they look for the links in both. Plain Rust then passes over the two lists
-once. Where they agree it compares eight links of each at once, and copies all that agree in one piece; where they do not it takes steps
-that branch by no link, in which it reads the links that may be next before it knows which is. It writes to a table that is kept from call
-to call, and copies the links in both to the output once it knows that they fit: one pass is enough whatever the output's length. Beside the
-two sides stand plain Rust that takes such steps alone, each after the links are read, and plain Rust that branches at each link.
+    let mut text = "Each file has bytes of its own, 2,048 members and 8,192 links, all drawn; two files that share all links have the same bytes. The output is
+as long as either file in version 2. Files of version 2 have drawn kinds, a link in both the same in both. The file that is written is of
+version 2 in any case, with the kinds of the first file, and links are in both only with equal weight. Both sides check both files before
+they look for the links in both. Plain Rust then passes over the two lists once. Where they agree it compares eight links of each at once,
+and copies all that agree in one piece; where they do not it takes steps that branch by no link, in which it reads the links that may be
+next before it knows which is. It writes to a table that is kept from call to call, and copies the links in both to the output once it knows
+that they fit: one pass is enough whatever the output's length. Beside the two sides stand plain Rust that takes such steps alone, each
+after the links are read, and plain Rust that branches at each link.
 
-| In both | Links in both | Library (µs) | Plain Rust (µs) | Ratio | By steps (µs) | By branches (µs) |
-|---|---|---|---|---|---|---|
+| In both | Links in both | Version | Library (µs) | Plain Rust (µs) | Ratio | By steps (µs) | By branches (µs) |
+|---|---|---|---|---|---|---|---|
 ".to_string();
     for one in records {
         let (name, both, ratio) = (one.records.name, one.records.both, one.ratio());
+        let version = one.records.version();
         let Shared { library, plain, .. } = one;
         let (steps, branches) = (one.steps, one.branches);
-        let line = format!("| {name} | {both} | {library:.1} | {plain:.1} | {ratio:.2} | {steps:.1} | {branches:.1} |");
+        let line = format!("| {name} | {both} | {version} | {library:.1} | {plain:.1} | {ratio:.2} | {steps:.1} | {branches:.1} |");
         add(&mut text, &line);
     }
     text

@@ -1,7 +1,7 @@
 //! The two sides that are measured, called alike.
 use crate::inputs::{Input, Links};
 use crate::plain::{Index, Plain, Refusal};
-use cogsplice::{file_length, lent, work_length};
+use cogsplice::{lent, work_length};
 
 /// The x and y of the core that is measured, and the number whose level is.
 const CORE: [u16; 2] = [2, 2];
@@ -37,6 +37,11 @@ impl Call {
 
     /// The calls that search inside A and B.
     pub const INSIDE: [Call; 4] = [Call::Finding, Call::Layers, Call::Core, Call::Level];
+
+    /// Whether it reads files of this version.
+    pub fn reads(self, version: u8) -> bool {
+        version == 1 || self != Call::Order
+    }
 
     pub fn name(self) -> &'static str {
         match self {
@@ -89,6 +94,12 @@ impl Timed {
         ascending.chain(Self::UNORDERED).collect()
     }
 
+    /// Every call that reads version 2, on links that ascend.
+    pub fn of_kinds() -> Vec<Self> {
+        let calls = Call::ALL.into_iter().filter(|call| call.reads(2));
+        calls.map(Self::ascending).collect()
+    }
+
     pub fn name(self) -> String {
         self.links.of(self.call.name())
     }
@@ -104,7 +115,7 @@ pub struct Tables {
     t: Vec<u8>,
     layers: Vec<u16>,
     out: Vec<u8>,
-    /// The output of `order`: the ascending file.
+    /// The output of `order`, which reads version 1 only: the ascending file.
     pub ordered: Vec<u8>,
     out_starts: Vec<u16>,
     out_rows: Vec<u16>,
@@ -116,12 +127,14 @@ impl Tables {
     /// Tables full of one number, so that an entry that only one side writes is noticed.
     fn new(input: &Input, full: u8) -> Self {
         let wide = |length| vec![u16::from(full); length];
+        let file = 9 + input.stride() * input.m;
+        let ordered = if input.version == 1 { file } else { 0 };
         Self {
             s: vec![full; input.n],
             t: vec![full; input.n],
             layers: wide(input.m),
-            out: vec![full; file_length(input.m)],
-            ordered: vec![full; file_length(input.m)],
+            out: vec![full; file],
+            ordered: vec![full; ordered],
             out_starts: wide(input.n + 1),
             out_rows: wide(input.m),
             in_starts: wide(input.n + 1),
@@ -246,22 +259,26 @@ impl Side for PlainRust {
         let Self { tables, plain } = self;
         let inside = [&input.a[..], &input.b];
         match call {
-            Call::Finding => told(plain.finding(file, inside, &mut tables.s, &mut tables.t)),
+            Call::Finding => told(plain.finding(file, inside, groups_of(tables))),
             Call::Layers => told(plain.layers(file, inside, &mut tables.layers)),
-            Call::Harmonic => told(plain.harmonic(file, &mut tables.s, &mut tables.t)),
-            Call::Core => told(plain.core(file, inside, CORE, &mut tables.s, &mut tables.t)),
+            Call::Harmonic => told(plain.harmonic(file, groups_of(tables))),
+            Call::Core => told(plain.core(file, inside, CORE, groups_of(tables))),
             Call::Level => told(plain.level(file, inside, LEVEL)),
             Call::Check => told(plain.check(file)),
             Call::Index => told(plain.index(file, index_of(tables))),
             Call::Write => told(plain.write(file, &mut tables.out)),
             Call::Order => told(plain.order(file, &mut tables.ordered)),
-            Call::Count => told(plain.count(file, &input.s, &input.t)),
+            Call::Count => told(plain.count(file, [&input.s, &input.t])),
         }
     }
 
     fn tables(&self) -> &Tables {
         &self.tables
     }
+}
+
+fn groups_of(tables: &mut Tables) -> [&mut [u8]; 2] {
+    [&mut tables.s, &mut tables.t]
 }
 
 fn index_of(tables: &mut Tables) -> Index<'_> {

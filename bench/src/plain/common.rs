@@ -1,10 +1,26 @@
 //! The links that are in both of two files, each in order.
-use super::network::{key, link_of, Link};
+use super::links::Link;
 use std::cmp::Ordering;
 
-/// Writes the links that are in both lists to the start of a table and returns how many they are. The table has room for one link more than
-/// the shorter list has.
-pub type Merge = fn(&[Link], &[Link], &mut [Link]) -> usize;
+/// How the links that are in both lists are looked for.
+#[derive(Clone, Copy)]
+pub enum Merge {
+    Blocks,
+    Steps,
+    Branches,
+}
+
+impl Merge {
+    /// Writes the links of the first list that are in the second too, of equal weight, to the start of a table and returns how many they are.
+    /// The table has room for one link more than the shorter list has.
+    pub fn lists<L: Link>(self, first: &[L], second: &[L], out: &mut [L]) -> usize {
+        match self {
+            Merge::Blocks => by_blocks(first, second, out),
+            Merge::Steps => by_steps(first, second, out),
+            Merge::Branches => by_branches(first, second, out),
+        }
+    }
+}
 
 /// Where the lists agree this many links are compared at once.
 const BLOCK: usize = 8;
@@ -13,7 +29,7 @@ const BLOCK: usize = 8;
 const WINDOW: usize = 32;
 
 /// Blocks where the lists agree, and steps that branch by no link where they do not.
-pub fn by_blocks(mut first: &[Link], mut second: &[Link], out: &mut [Link]) -> usize {
+fn by_blocks<L: Link>(mut first: &[L], mut second: &[L], out: &mut [L]) -> usize {
     let mut both = 0;
     while first.len().min(second.len()) >= WINDOW {
         let out = &mut out[both..];
@@ -32,23 +48,23 @@ pub fn by_blocks(mut first: &[Link], mut second: &[Link], out: &mut [Link]) -> u
 }
 
 /// How many links at the start are the same in both lists, in whole blocks.
-fn agreeing(first: &[Link], second: &[Link]) -> usize {
+fn agreeing<L: Link>(first: &[L], second: &[L]) -> usize {
     let blocks = first.chunks_exact(BLOCK).zip(second.chunks_exact(BLOCK));
     BLOCK * blocks.take_while(|(one, other)| one == other).count()
 }
 
 /// Steps through a window of each list: how far it comes in each, and how many links it finds in both. The links that may be next are read
 /// before it is known which of them is, so that no step waits for a link to be read.
-fn steps(first: &[Link], second: &[Link], out: &mut [Link]) -> [usize; 3] {
+fn steps<L: Link>(first: &[L], second: &[L], out: &mut [L]) -> [usize; 3] {
     // Of this length, so that a remainder is an index without a test.
     let (first, second) = (&first[..WINDOW], &second[..WINDOW]);
     let out = &mut out[..WINDOW];
     let (mut i, mut j, mut both) = (0, 0, 0);
-    let (mut one, mut other) = (key(first[0]), key(second[0]));
+    let (mut one, mut other) = (first[0].mark(), second[0].mark());
     for _ in 1..WINDOW {
-        let after_one = key(first[(i + 1) % WINDOW]);
-        let after_other = key(second[(j + 1) % WINDOW]);
-        out[both % WINDOW] = link_of(one);
+        let after_one = first[(i + 1) % WINDOW].mark();
+        let after_other = second[(j + 1) % WINDOW].mark();
+        out[both % WINDOW] = first[i % WINDOW];
         let (takes_one, takes_other) = (one <= other, other <= one);
         both += usize::from(one == other);
         i += usize::from(takes_one);
@@ -60,10 +76,10 @@ fn steps(first: &[Link], second: &[Link], out: &mut [Link]) -> [usize; 3] {
 }
 
 /// Steps that branch by no link, and nothing else: a link of the first list is written in any case, and counted if it is in both.
-pub fn by_steps(first: &[Link], second: &[Link], out: &mut [Link]) -> usize {
+fn by_steps<L: Link>(first: &[L], second: &[L], out: &mut [L]) -> usize {
     let (mut i, mut j, mut both) = (0, 0, 0);
     while i < first.len() && j < second.len() {
-        let (one, other) = (key(first[i]), key(second[j]));
+        let (one, other) = (first[i].mark(), second[j].mark());
         out[both] = first[i];
         both += usize::from(one == other);
         i += usize::from(one <= other);
@@ -73,10 +89,10 @@ pub fn by_steps(first: &[Link], second: &[Link], out: &mut [Link]) -> usize {
 }
 
 /// A branch at each link.
-pub fn by_branches(first: &[Link], second: &[Link], out: &mut [Link]) -> usize {
+fn by_branches<L: Link>(first: &[L], second: &[L], out: &mut [L]) -> usize {
     let (mut i, mut j, mut both) = (0, 0, 0);
     while i < first.len() && j < second.len() {
-        match key(first[i]).cmp(&key(second[j])) {
+        match first[i].mark().cmp(&second[j].mark()) {
             Ordering::Less => i += 1,
             Ordering::Greater => j += 1,
             Ordering::Equal => {

@@ -1,5 +1,6 @@
-//! The harmonic measure: the place with the fewest links to places not yet dropped is dropped, again and again. Places are numbered as in
+//! The harmonic measure: the place whose links to places not yet dropped weigh least is dropped, again and again. Places are numbered as in
 //! the peel, so that of equal degrees the smaller place goes first.
+use super::links::Entry;
 use super::peel::Peel;
 
 /// A place has its degree as its key until it is dropped, and then this number and how many were dropped before it. No degree is as great.
@@ -14,7 +15,7 @@ pub struct Drops {
     winners: Vec<u16>,
 }
 
-/// A state that was met: after how many drops, its links and its places.
+/// A state that was met: after how many drops, the weight of its links, and its places.
 struct State {
     drops: usize,
     edges: usize,
@@ -23,9 +24,9 @@ struct State {
 
 impl Drops {
     /// Drops the places of a network with links one by one, and writes the groups of the earliest state with the greatest measure. Returns
-    /// its links.
-    pub fn harmonic(&mut self, peel: &Peel, s: &mut [u8], t: &mut [u8]) -> usize {
-        self.start(peel);
+    /// the weight of its links.
+    pub fn harmonic<E: Entry>(&mut self, peel: &Peel<E>, s: &mut [u8], t: &mut [u8]) -> usize {
+        self.start(peel.whole());
         let best = self.run(peel);
         let (vouchers, vouched) = self.keys.split_at(s.len());
         write_state(vouchers, best.drops, s);
@@ -34,9 +35,9 @@ impl Drops {
     }
 
     /// Everyone on both sides.
-    fn start(&mut self, peel: &Peel) {
+    fn start(&mut self, whole: &[u16]) {
         self.keys.clear();
-        self.keys.extend(peel.row_lengths());
+        self.keys.extend_from_slice(whole);
         let places = self.keys.len();
         self.winners.resize(2 * places, 0);
         let (keys, winners) = (&self.keys[..], &mut self.winners[..]);
@@ -50,7 +51,7 @@ impl Drops {
     }
 
     /// Drops places until no link is left: every later state has the measure 0, which is not the greatest.
-    fn run(&mut self, peel: &Peel) -> State {
+    fn run<E: Entry>(&mut self, peel: &Peel<E>) -> State {
         // As slices, so that their lengths and places in memory are known to stay as they are.
         let (keys, winners) = (&mut self.keys[..], &mut self.winners[..]);
         let (places, mut edges) = (keys.len(), peel.edges());
@@ -67,9 +68,10 @@ impl Drops {
             keys[place] = DROPPED + drops as u16;
             drops += 1;
             replay(keys, winners, first);
-            for &other in peel.row(place) {
+            for entry in peel.row(place) {
+                let other = entry.place();
                 if keys[usize::from(other)] < DROPPED {
-                    keys[usize::from(other)] -= 1;
+                    keys[usize::from(other)] -= entry.weight();
                     rise(keys, winners, other);
                 }
             }

@@ -1,6 +1,7 @@
 //! The journal: its check, and a set of links that follows its entries.
 use super::chunks::{chunks, chunks_mut};
-use super::network::{Link, HEADER_LENGTH, MOST_LINKS, MOST_MEMBERS};
+use super::links::Single;
+use super::network::{HEADER_LENGTH, MOST_LINKS, MOST_MEMBERS};
 use super::Refusal;
 use cogsplice::JOURNAL_OUT;
 use std::collections::BTreeSet;
@@ -50,7 +51,7 @@ pub trait Links: Default + Clone {
     fn withdraw(&mut self, link: u32, totals: &mut Totals) -> u8;
     fn clear(&mut self);
     /// Writes the links as they stand in a file.
-    fn lay_out(&self, out: &mut [Link]);
+    fn lay_out(&self, out: &mut [Single]);
 }
 
 /// A sorted vector.
@@ -83,7 +84,7 @@ impl Links for Vec<u32> {
         self.clear();
     }
 
-    fn lay_out(&self, out: &mut [Link]) {
+    fn lay_out(&self, out: &mut [Single]) {
         lay_out(self.iter(), out);
     }
 }
@@ -129,13 +130,13 @@ impl Links for BTreeSet<u32> {
         self.clear();
     }
 
-    fn lay_out(&self, out: &mut [Link]) {
+    fn lay_out(&self, out: &mut [Single]) {
         lay_out(self.iter(), out);
     }
 }
 
 /// Voucher and vouched change places on the way to the number that orders links, and on the way back.
-fn lay_out<'a>(links: impl Iterator<Item = &'a u32>, out: &mut [Link]) {
+fn lay_out<'a>(links: impl Iterator<Item = &'a u32>, out: &mut [Single]) {
     for (entry, link) in out.iter_mut().zip(links) {
         *entry = link.rotate_left(16).to_le_bytes();
     }

@@ -1,12 +1,14 @@
--- The count call: each refusal under its condition.
-use Prim.Native.Nat.{ℕ, ◌-◌, ◌<◌, ◌≤◌}
-use mathlib.Core.Bool.{true, false, ◌&&◌, or-true}
+-- The count call: the weights of edges added up, and each refusal under its condition.
+use Prim.Native.Nat.{ℕ, ◌-◌, ◌*◌, ◌<◌, ◌≤◌}
+use mathlib.Core.Bool.{Bool, true, false, ◌&&◌, or-true}
 use mathlib.Core.List.{List}
 use mathlib.Core.Path.{◌≡◌, ◌∙◌}
 use native.Mathlib.Omega.{arith}
 use borrow.Author.Tests.{lt-ltb, le-ltb}
+use mir.Val.{bool_byte}
 use lib.ListN.{length, take, length-take}
 use Rattle.graph.specs.Range.{sum, if}
+use Rattle.graph.specs.Graph as graph
 use Rattle.graph.specs.Graph.{Graph, edges, card}
 use Rattle.graph.specs.Shapes.{Same}
 use Rattle.graph.proofs.Degrees.{edges-same, card-same}
@@ -19,6 +21,15 @@ use Rattle.network.specs.Refusals.{count_refusal}
 use Rattle.network.proofs.Accepted.{accepted}
 use Rattle.network.proofs.Answers.{or_else-second}
 use Rattle.network.proofs.Groups.{cut-same, totals-same}
+
+-- what edge e adds to E(S,T)
+abbrev pub weighs : Graph → graph.Group → graph.Group → ℕ → ℕ
+weighs g S T e = if (S (g.source e) && T (g.target e)) (g.weight e)
+
+-- a weight is taken whole or not at all by a product with a test
+pub weight-taken : (b : Bool) (w : ℕ) → w * bool_byte b ≡ if b w
+weight-taken true w = omega arith
+weight-taken false w = omega arith
 
 module _ (f s t : List ℕ) (a : Accepted f) where
   -- 9 for a short first group,

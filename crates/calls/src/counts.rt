@@ -7,7 +7,7 @@ ghost use Rattle.network.specs.Groups.{group_of};
 ghost use Rattle.calls.specs.Calls.{CountCall};
 
 use checking::{are_groups, check_file};
-use network::{AcceptedFile, Refusal, Side, Totals, end_at, order_of, size_of};
+use network::{AcceptedFile, Refusal, Side, Totals, end_at, order_of, size_of, weight_at};
 
 // 01: the size of a group. It is counted in 16 bits, many bytes at a time.
 fn group_size(group: &[u8]) -> usize
@@ -21,7 +21,7 @@ fn group_size(group: &[u8]) -> usize
     usize::from(total)
 }
 
-// 01: E(S,T).
+// 01, and 02, wish 13: E(S,T), by the weights of links. A weight is taken whole or not at all by a product, so that there is no branch.
 fn edges_between(file: &AcceptedFile, s: &[u8], t: &[u8]) -> u32
     requires s_long { (graph_of file.now.bytes.now).order ≤ length s.now }
     requires t_long { (graph_of file.now.bytes.now).order ≤ length t.now }
@@ -30,9 +30,10 @@ fn edges_between(file: &AcceptedFile, s: &[u8], t: &[u8]) -> u32
     let size = size_of(file.bytes);
     let mut total: u32 = 0;
     for e in 0..size {
-        let source = end_at(file.bytes, Side::Source, e);
-        let target = end_at(file.bytes, Side::Target, e);
-        total += u32::from((s[source] == 1) & (t[target] == 1));
+        let source = end_at(file.bytes, file.stride, Side::Source, e);
+        let target = end_at(file.bytes, file.stride, Side::Target, e);
+        let weight = u32::from(weight_at(file.bytes, file.stride, e));
+        total += weight * u32::from((s[source] == 1) & (t[target] == 1));
     }
     total
 }

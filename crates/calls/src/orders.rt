@@ -1,4 +1,4 @@
-// A file by the old rule, written with its edges in ascending order.
+// A file by the old rule, which is of version 1, written with its edges in ascending order.
 ghost use Rattle.calls.specs.Calls.{OrderCall};
 
 use crate::puts::put_file;
@@ -13,10 +13,10 @@ fn sort_file(file: &[u8], out: &mut [u8]) -> Result<usize, Refusal>
     let mut sorted = [0u16; MOST_LINKS];
     let file = check_old(file, &mut sorted)?;
     let size = size_of(file.bytes);
-    if out.len() < link_at(size) {
+    if out.len() < link_at(file.stride, size) {
         return Err(Refusal::Table);
     }
-    put_file(&file, &sorted[0..size], out);
+    put_file(&file, 1, &sorted[0..size], out);
     Ok(size)
 }
 
@@ -24,7 +24,7 @@ fn sort_file(file: &[u8], out: &mut [u8]) -> Result<usize, Refusal>
 pub fn order(file: &[u8], out: &mut [u8]) -> Result<usize, Refusal>
     ensures { OrderCall file.now out.old out.new result }
 {
-    match accept(file) {
+    match accept(file, 1) {
         Some(file) => write_accepted(&file, out),
         None => sort_file(file, out),
     }

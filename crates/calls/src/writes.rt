@@ -3,8 +3,8 @@
 // and each says that the output, which may be longer, has room.
 ghost use Rattle.std.specs.Prelude.{◌≡◌, ◌≤◌, length};
 ghost use Rattle.std.proofs.lemmas.List.Edits.{sets};
-ghost use Rattle.network.specs.File.{link_at, graph_of};
-ghost use Rattle.network.specs.Bytes.{written};
+ghost use Rattle.network.specs.File.{file_length};
+ghost use Rattle.network.specs.Bytes.{ordered};
 ghost use Rattle.network.specs.Accepted.{Accepted};
 ghost use Rattle.calls.specs.Calls.{WriteCall};
 
@@ -15,11 +15,11 @@ use network::{AcceptedFile, Refusal, link_at, put_header, size_of};
 // each fits 8 bits.
 fn put_itself(file: &[u8], out: &mut [u8])
     requires accepted { Accepted file.now }
-    requires room { link_at (graph_of file.now).size ≤ length out.old }
-    ensures { out.new ≡ sets out.old 0 (written (graph_of file.now)) }
+    requires room { file_length file.now ≤ length out.old }
+    ensures { out.new ≡ sets out.old 0 (ordered file.now) }
 {
     if file.is_empty() {
-        put_header(out, 0, 0);
+        put_header(out, 1, 0, 0);
     } else {
         out[0..file.len()].copy_from_slice(file);
     }
@@ -30,7 +30,7 @@ pub fn write_accepted(file: &AcceptedFile, out: &mut [u8]) -> Result<usize, Refu
     ensures { WriteCall file.now.bytes.now out.old out.new result }
 {
     let size = size_of(file.bytes);
-    if out.len() < link_at(size) {
+    if out.len() < link_at(file.stride, size) {
         return Err(Refusal::Table);
     }
     put_itself(file.bytes, out);

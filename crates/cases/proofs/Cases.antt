@@ -1,5 +1,5 @@
 -- P1 to P9, a ring beside a star, both also inside A and B, the harmonic finder, zero bytes, the limits of a file,
--- links that do not ascend, journals, findings compared, the links in both of two files, and a link more: every case of the table holds; and 19 and 20
+-- links that do not ascend, journals, findings compared, the links in both of two files, a link more, and kinds: every case of the table holds; and 19 and 20
 -- for an entry, by their law.
 use mathlib.Core.Path.{refl}
 use Rattle.graph.specs.Range.{sum, first, flat}
@@ -7,7 +7,8 @@ use Rattle.graph.specs.Order.{rank_by, nth_by}
 use Rattle.graph.specs.Core.{apart}
 use Rattle.graph.specs.Places.{links_to}
 use Rattle.graph.specs.Harmonic.{unbeaten}
-use Rattle.network.specs.File.{old_refusal, file_refusal}
+use Rattle.network.specs.File.{version_of, stride, kind_at, weight_of, any_order, file_refusal}
+use Rattle.network.specs.Bytes.{kind_bytes}
 use Rattle.network.specs.Refusals.{out_refusal}
 use Rattle.finding.specs.Equality.{equal_refusal}
 use Rattle.merging.specs.Shared.{is_shared}
@@ -21,5 +22,5 @@ use Rattle.cases.proofs.Compute.{all_sound}
 
 -- by computing the test of the table, and by the law
 pub cases-hold : Hold cases × PlaceNumbersHold
-unfolding cases sum first flat apart links_to unbeaten rank_by nth_by old_refusal file_refusal header_refusal entry_at live due number after equal_refusal out_refusal is_shared pair_refusal
+unfolding cases sum first flat apart links_to unbeaten rank_by nth_by version_of stride kind_at weight_of kind_bytes any_order file_refusal header_refusal entry_at live due number after equal_refusal out_refusal is_shared pair_refusal
 cases-hold = (all_sound cases refl, λ n s u v l m absent. record { all_given = add-all-given n s u v l m absent; no_place = add-no-place n s u v l m absent })

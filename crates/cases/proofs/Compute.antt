@@ -7,9 +7,10 @@ use mathlib.Core.Logic.{◌⊎◌, inl, inr, ⊎_elim, ◌↔◌}
 use mathlib.Core.Path.{◌≡◌, refl, sym, ap, ◌∙◌}
 use native.Mathlib.Nat.{le_refl, le_trans, eq-or-lt_of_le}
 use native.Mathlib.Omega.{arith}
-use borrow.Author.Tests.{ltb-true, leb-true, eqb-true, le-leb, eq-eqb, not-true}
+use borrow.Author.Tests.{ltb-true, lt-ltb, leb-true, eqb-true, le-leb, eq-eqb, not-true}
 use lib.Dec.{eqb, leb, ltb}
 use lib.ListN.{length, get_or}
+use Rattle.graph.specs.Range.{first}
 use Rattle.graph.specs.Graph.{Graph, Group, card, edges, out_degree, in_degree}
 use Rattle.graph.specs.Shapes.{Closed, total}
 use Rattle.graph.specs.Core.{Inside, Dense, CoreInside, NonemptyInside, Greatest, apart, Before, FindingInside}
@@ -18,6 +19,7 @@ use Rattle.graph.specs.Layers.{still_in, joins, LayerInside, LayeringInside}
 use Rattle.graph.specs.Harmonic.{Harmonic}
 use Rattle.graph.proofs.Tests.{and_left, and_right, and_both}
 use Rattle.graph.proofs.Sums.{below_suc}
+use Rattle.graph.proofs.Ranges.{first_passes, first_some}
 use Rattle.graph.proofs.Degrees.{card_mono}
 use Rattle.graph.proofs.Exists.{nonempty-in, nonempty-nested}
 use Rattle.graph.proofs.Search.{greatest-stop}
@@ -26,17 +28,16 @@ use Rattle.graph.proofs.Masks.{closed-weighing}
 use Rattle.graph.proofs.Layers.{layer-make, layer-product}
 use Rattle.network.specs.declared.Refusal.{Refusal}
 use Rattle.std.specs.Prelude.{Option, None, Some, is_none}
-use Rattle.network.specs.File.{graph_of, number_told, link_told, old_refusal, file_refusal}
+use Rattle.network.specs.File.{version_of, kind_at, graph_of, LinkedAs, number_told, link_told, old_refusal, file_refusal}
 use Rattle.network.specs.Groups.{group_of}
-use Rattle.network.specs.Bytes.{written}
+use Rattle.network.specs.Bytes.{ordered}
 use Rattle.journal.specs.Entries.{members as members_of, header_refusal}
 use Rattle.journal.specs.Journal.{live, due, after}
 use Rattle.journal.specs.Calls.{count_of}
 use Rattle.finding.specs.Equality.{Found, Agree, Equal, equal_refusal}
 use Rattle.network.specs.Held.{FileOf}
-use Rattle.merging.specs.Shared.{is_shared, shared, unshared}
+use Rattle.merging.specs.Shared.{shared, unshared}
 use Rattle.merging.specs.Calls.{pair_refusal, common_refusal, InBoth}
-use Rattle.merging.proofs.Shares.{shared-linked}
 use Rattle.cases.specs.Journals.{numbers_after, pairs_after, SaysJournal, SaysTotals}
 use Rattle.cases.specs.Cases.{numbers_of, members, Ring, Counts, Claim, core, level, across, finding, layers, harmonic, has, gives, orders, follows, totals, heads, against, compares, shares, pairs, Rings, SaysRing, found, SaysAgainst, SaysShares, Says, Case, Hold}
 use Rattle.cases.proofs.Sweep.{with_out, with_in, sources_left, targets_left, covers-sweep}
@@ -452,6 +453,29 @@ against-sound f g A B p q equal h =
     let (to, from) = same_exact (found f p) (found g q) in
     record { mine = has_ring-sound f A B p a; theirs = has_ring-sound g A B q b; told = (λ i. to (sym e ∙ i), λ i. e ∙ from i) }
 
+-- edge e goes from u to v and is of kind k
+abbrev pub is_of : Graph → (ℕ → ℕ) → ℕ → ℕ → ℕ → ℕ → Bool
+is_of g kind u v k e = eqb (g.source e) u && (eqb (g.target e) v && eqb (kind e) k)
+
+-- of links with these kinds, one from u to v is of kind k
+abbrev pub is_kinded : Graph → (ℕ → ℕ) → ℕ → ℕ → ℕ → Bool
+is_kinded g kind u v k = ltb (first (is_of g kind u v k) g.size) g.size
+
+-- exactly by the definition
+kinded_exact : (g : Graph) (kind : ℕ → ℕ) (u v k : ℕ) → (is_kinded g kind u v k ≡ true) ↔ LinkedAs g kind u v k
+kinded_exact g kind u v k = (to, from)
+  where
+    to : is_kinded g kind u v k ≡ true → LinkedAs g kind u v k
+    to h =
+        let e = first (is_of g kind u v k) g.size in
+        let l = ltb-true e g.size h in
+        let (s, r) = both (eqb (g.source e) u) _ (first_passes (is_of g kind u v k) g.size l) in
+        let (q, i) = both (eqb (g.target e) v) _ r in
+        (e, l, eqb-true _ u s, eqb-true _ v q, eqb-true _ k i)
+
+    from : LinkedAs g kind u v k → is_kinded g kind u v k ≡ true
+    from (e, l, s, q, i) = lt-ltb _ _ (first_some (is_of g kind u v k) g.size e l (and_both (eq-eqb _ u s) (and_both (eq-eqb _ v q) (eq-eqb _ k i))))
+
 -- of two files a third is a file of the links in both: each link of it is in both, and each that is in both is in it
 abbrev pub is_common : List ℕ → List ℕ → List ℕ → Bool
 is_common f g w =
@@ -459,7 +483,8 @@ is_common f g w =
     let q = graph_of g in
     let r = graph_of w in
     is_none (file_refusal w) && (eqb r.order p.order
-    && (every r.size (λ e. is_shared r p e && is_shared r q e) && every p.size (λ e. implies (is_shared p q e) (is_shared p r e))))
+    && (every r.size (λ e. is_kinded p (kind_at f) (r.source e) (r.target e) (kind_at w e) && is_kinded q q.weight (r.source e) (r.target e) (r.weight e))
+    && every p.size (λ e. implies (is_kinded q q.weight (p.source e) (p.target e) (p.weight e)) (is_kinded r (kind_at w) (p.source e) (p.target e) (kind_at f e)))))
 
 -- by the definitions
 common-sound : (f g w : List ℕ) → is_common f g w ≡ true → FileOf (graph_of f).order (InBoth f g) w
@@ -469,13 +494,17 @@ common-sound f g w h =
     let r = graph_of w in
     let (a, t) = both (is_none (file_refusal w)) _ h in
     let (n, u) = both (eqb r.order p.order) _ t in
-    let (within, whole) = both (every r.size (λ e. is_shared r p e && is_shared r q e)) _ u in
+    let (within, whole) = both (every r.size (λ e. is_kinded p (kind_at f) (r.source e) (r.target e) (kind_at w e) && is_kinded q q.weight (r.source e) (r.target e) (r.weight e))) _ u in
     record {
       accepted = none-sound (file_refusal w) a;
       order = eqb-true _ _ n;
-      linked = λ u v. (
-        λ (e, l, s, t). let (i, j) = both (is_shared r p e) _ (every-at r.size _ within e l) in (((shared-linked r p u v).0 (e, l, i, s, t)).1, ((shared-linked r q u v).0 (e, l, j, s, t)).1),
-        λ i. let (e, l, j, s, t) = (shared-linked p q u v).1 i in ((shared-linked p r u v).0 (e, l, implies_true (every-at p.size _ whole e l) j, s, t)).1,
+      linked = λ u v k. (
+        λ (e, l, s, t, i).
+            let (m, o) = both (is_kinded p (kind_at f) (r.source e) (r.target e) (kind_at w e)) _ (every-at r.size _ within e l) in
+            rw (← s, ← t, ← i) ((kinded_exact p (kind_at f) _ _ _).0 m, (kinded_exact q q.weight _ _ _).0 o),
+        λ ((e, l, s, t, i), o).
+            let m : is_kinded q q.weight (p.source e) (p.target e) (p.weight e) ≡ true = (kinded_exact q q.weight _ _ _).1 (rw (s, t, i) o) in
+            rw (← s, ← t, ← i) ((kinded_exact r (kind_at w) _ _ _).0 (implies_true (every-at p.size _ whole e l) m)),
       );
     }
 
@@ -483,7 +512,7 @@ common-sound f g w h =
 abbrev pub are_shares : List ℕ → List ℕ → List ℕ → ℕ → ℕ → ℕ → Bool
 are_shares f g w b i j =
     is_none (pair_refusal f g) && (eqb (shared (graph_of f) (graph_of g)) b
-    && (eqb (unshared (graph_of f) (graph_of g)) i && (eqb (unshared (graph_of g) (graph_of f)) j && is_common f g w)))
+    && (eqb (unshared (graph_of f) (graph_of g)) i && (eqb (unshared (graph_of g) (graph_of f)) j && (eqb (version_of w) 2 && is_common f g w))))
 
 -- by the definitions
 shares-sound : (f g w : List ℕ) (b i j : ℕ) → are_shares f g w b i j ≡ true → SaysShares f g w b i j
@@ -491,8 +520,16 @@ shares-sound f g w b i j h =
     let (a, r) = both (is_none (pair_refusal f g)) _ h in
     let (p, s) = both (eqb (shared (graph_of f) (graph_of g)) b) _ r in
     let (q, t) = both (eqb (unshared (graph_of f) (graph_of g)) i) _ s in
-    let (k, c) = both (eqb (unshared (graph_of g) (graph_of f)) j) _ t in
-    record { passed = none-sound (pair_refusal f g) a; both_is = eqb-true _ _ p; mine_is = eqb-true _ _ q; theirs_is = eqb-true _ _ k; file = common-sound f g w c }
+    let (k, u) = both (eqb (unshared (graph_of g) (graph_of f)) j) _ t in
+    let (v, c) = both (eqb (version_of w) 2) _ u in
+    record {
+      passed = none-sound (pair_refusal f g) a;
+      both_is = eqb-true _ _ p;
+      mine_is = eqb-true _ _ q;
+      theirs_is = eqb-true _ _ k;
+      version = eqb-true _ _ v;
+      file = common-sound f g w c;
+    }
 
 -- the test of a claim on a file inside A and B
 abbrev pub holds : List ℕ → Group → Group → Claim → Bool
@@ -507,7 +544,7 @@ holds f A B (layers l rings) =
 holds f A B (harmonic S T E) = is_accepted f && (is_harmonic (graph_of f) (members S) (members T) && is_counts (graph_of f) S T E)
 holds f A B (has n m) = is_none (file_refusal f) && (eqb (graph_of f).order n && eqb (graph_of f).size m)
 holds f A B (gives r) = is_refusal (file_refusal f) r
-holds f A B (orders w) = is_none (old_refusal f) && (are_equal (written (graph_of f)) w && is_none (file_refusal w))
+holds f A B (orders w) = is_none (old_refusal f) && (are_equal (ordered f) w && is_none (file_refusal w))
 holds f A B (follows asked numbers present) = is_journal f asked numbers present
 holds f A B (totals asked l d) = is_totals f asked l d
 holds f A B (heads r) = is_refusal (header_refusal f) r
@@ -559,8 +596,8 @@ holds-sound f A B (has n m) h =
 holds-sound f A B (gives r) h = refusal-sound (file_refusal f) r h
 holds-sound f A B (orders w) h =
     let (a, r) = both (is_none (old_refusal f)) _ h in
-    let (p, q) = both (are_equal (written (graph_of f)) w) _ r in
-    (none-sound (old_refusal f) a, equal-sound (written (graph_of f)) w p, none-sound (file_refusal w) q)
+    let (p, q) = both (are_equal (ordered f) w) _ r in
+    (none-sound (old_refusal f) a, equal-sound (ordered f) w p, none-sound (file_refusal w) q)
 holds-sound f A B (follows asked numbers present) h = journal-sound f asked numbers present h
 holds-sound f A B (totals asked l d) h = totals-sound f asked l d h
 holds-sound f A B (heads r) h = refusal-sound (header_refusal f) r h

@@ -1,5 +1,5 @@
 -- 01's "Networks to try" and 02's examples as one table: each network as the bytes of its file, two groups A and B, and what is said of it
--- inside them, by the definitions; journals, as their bytes; findings compared; the links in both of two files; and a link more.
+-- inside them, by the definitions; journals, as their bytes; findings compared; the links in both of two files; a link more; and kinds.
 use Rattle.std.specs.Prelude.{ℕ, suc, Bool, true, false, ◌||◌, List, [], ◌∷◌, ◌++◌, ◌↔◌, ◌≡◌, Option, None, eqb, length, get_or, take}
 use Rattle.graph.specs.Graph.{Graph, Group, everyone, card, edges}
 use Rattle.graph.specs.Core.{CoreInside, LevelInside, LevelAcrossInside, EqualLevelInside, FindingInside}
@@ -7,9 +7,9 @@ use Rattle.graph.specs.Quiet.{OutcomeInside}
 use Rattle.graph.specs.Layers.{still_in, LayeringInside}
 use Rattle.graph.specs.Harmonic.{Harmonic}
 use Rattle.network.specs.declared.Refusal.{Refusal}
-use Rattle.network.specs.File.{mark, graph_of, number_told, link_told, old_refusal, file_refusal}
+use Rattle.network.specs.File.{mark, version_of, graph_of, number_told, link_told, old_refusal, file_refusal}
 use Rattle.network.specs.Groups.{bytes_of}
-use Rattle.network.specs.Bytes.{u16, header, edge_bytes, written}
+use Rattle.network.specs.Bytes.{u16, header, edge_bytes, ordered}
 use Rattle.network.specs.Held.{FileOf}
 use Rattle.finding.specs.Equality.{Found, Equal, equal_refusal}
 use Rattle.journal.specs.Entries.{journal_mark, header_refusal}
@@ -30,6 +30,17 @@ plain k = (k, 0)
 
 abbrev pub at : ℕ → ℕ → ℕ × ℕ
 at k e = (k, e)
+
+-- the header of a file of version 1, and that of one of version 2
+abbrev pub header1 : ℕ → ℕ → List ℕ
+header1 = header 1
+
+abbrev pub header2 : ℕ → ℕ → List ℕ
+header2 = header 2
+
+-- 02, wish 13: a link of version 2, with its kind
+abbrev pub kinded : ℕ → ℕ → ℕ → List ℕ
+kinded u v k = edge_bytes u v ++ k ∷ []
 
 -- the group of the listed members
 abbrev pub members : List ℕ → Group
@@ -134,12 +145,13 @@ pub record SaysAgainst (f g : List ℕ) (A B : Group) (p q : Ring) (equal : Bool
   pub theirs : SaysRing g A B q
   pub told : (equal ≡ true) ↔ Equal (found f p) (found g q)
 
--- neither file is refused, their links are so many in both and in one only, and `common` is a file of those in both
+-- neither file is refused, their links are so many in both and in one only, and `common` is a file of those in both, of version 2
 pub record SaysShares (f g common : List ℕ) (both mine theirs : ℕ) : Type 0 where
   pub passed : pair_refusal f g ≡ None
   pub both_is : shared (graph_of f) (graph_of g) ≡ both
   pub mine_is : unshared (graph_of f) (graph_of g) ≡ mine
   pub theirs_is : unshared (graph_of g) (graph_of f) ≡ theirs
+  pub version : version_of common ≡ 2
   pub file : FileOf (graph_of f).order (InBoth f g) common
 
 -- a claim on a file inside A and B, by the definitions; A and B do not count for the harmonic finder, nor for the bytes of a file or a journal or for
@@ -153,7 +165,7 @@ Says f A B (layers l rings) = SaysLayers f A B l rings
 Says f A B (harmonic S T E) = SaysHarmonic f S T E
 Says f A B (has n m) = (file_refusal f ≡ None) × ((graph_of f).order ≡ n) × ((graph_of f).size ≡ m)
 Says f A B (gives r) = numbers_of (file_refusal f) ≡ r
-Says f A B (orders w) = (old_refusal f ≡ None) × (written (graph_of f) ≡ w) × (file_refusal w ≡ None)
+Says f A B (orders w) = (old_refusal f ≡ None) × (ordered f ≡ w) × (file_refusal w ≡ None)
 Says f A B (follows asked numbers present) = SaysJournal f asked numbers present
 Says f A B (totals asked live due) = SaysTotals f asked live due
 Says f A B (heads r) = numbers_of (header_refusal f) ≡ r
@@ -171,37 +183,41 @@ pub record Case : Type 0 where
 
 -- network W
 abbrev pub W : List ℕ
-W = header 6 8 ++ edge_bytes 0 3 ++ edge_bytes 0 4 ++ edge_bytes 1 3 ++ edge_bytes 1 4 ++ edge_bytes 2 3 ++ edge_bytes 2 4 ++ edge_bytes 4 5 ++ edge_bytes 5 5
+W = header1 6 8 ++ edge_bytes 0 3 ++ edge_bytes 0 4 ++ edge_bytes 1 3 ++ edge_bytes 1 4 ++ edge_bytes 2 3 ++ edge_bytes 2 4 ++ edge_bytes 4 5 ++ edge_bytes 5 5
+
+-- W in version 2, each link of kind 0
+abbrev pub w_of_kinds : List ℕ
+w_of_kinds = header2 6 8 ++ kinded 0 3 0 ++ kinded 0 4 0 ++ kinded 1 3 0 ++ kinded 1 4 0 ++ kinded 2 3 0 ++ kinded 2 4 0 ++ kinded 4 5 0 ++ kinded 5 5 0
 
 -- W's links in another order
 abbrev pub mixed_w : List ℕ
-mixed_w = header 6 8 ++ edge_bytes 5 5 ++ edge_bytes 2 4 ++ edge_bytes 0 4 ++ edge_bytes 1 3 ++ edge_bytes 4 5 ++ edge_bytes 2 3 ++ edge_bytes 0 3 ++ edge_bytes 1 4
+mixed_w = header1 6 8 ++ edge_bytes 5 5 ++ edge_bytes 2 4 ++ edge_bytes 0 4 ++ edge_bytes 1 3 ++ edge_bytes 4 5 ++ edge_bytes 2 3 ++ edge_bytes 0 3 ++ edge_bytes 1 4
 
 -- 02, wish 10: W of other members: each stands three places further on, and the last three where the first did
 abbrev pub other_members : List ℕ
-other_members = header 6 8 ++ edge_bytes 1 2 ++ edge_bytes 2 2 ++ edge_bytes 3 0 ++ edge_bytes 3 1 ++ edge_bytes 4 0 ++ edge_bytes 4 1 ++ edge_bytes 5 0 ++ edge_bytes 5 1
+other_members = header1 6 8 ++ edge_bytes 1 2 ++ edge_bytes 2 2 ++ edge_bytes 3 0 ++ edge_bytes 3 1 ++ edge_bytes 4 0 ++ edge_bytes 4 1 ++ edge_bytes 5 0 ++ edge_bytes 5 1
 
 -- W with a link more beside its ring, and W among a member more
 abbrev pub w_and_a_link : List ℕ
-w_and_a_link = header 6 9 ++ edge_bytes 0 3 ++ edge_bytes 0 4 ++ edge_bytes 0 5 ++ edge_bytes 1 3 ++ edge_bytes 1 4 ++ edge_bytes 2 3 ++ edge_bytes 2 4 ++ edge_bytes 4 5 ++ edge_bytes 5 5
+w_and_a_link = header1 6 9 ++ edge_bytes 0 3 ++ edge_bytes 0 4 ++ edge_bytes 0 5 ++ edge_bytes 1 3 ++ edge_bytes 1 4 ++ edge_bytes 2 3 ++ edge_bytes 2 4 ++ edge_bytes 4 5 ++ edge_bytes 5 5
 
 abbrev pub w_and_a_member : List ℕ
-w_and_a_member = header 7 8 ++ edge_bytes 0 3 ++ edge_bytes 0 4 ++ edge_bytes 1 3 ++ edge_bytes 1 4 ++ edge_bytes 2 3 ++ edge_bytes 2 4 ++ edge_bytes 4 5 ++ edge_bytes 5 5
+w_and_a_member = header1 7 8 ++ edge_bytes 0 3 ++ edge_bytes 0 4 ++ edge_bytes 1 3 ++ edge_bytes 1 4 ++ edge_bytes 2 3 ++ edge_bytes 2 4 ++ edge_bytes 4 5 ++ edge_bytes 5 5
 
 -- 02, wish 11: W's events as the vouched recorded them, without the link from 5 to itself and with one from 3 to 0; and the links that are in this and
--- in W with a link more
+-- in W with a link more, written in version 2 (wish 13)
 abbrev pub received : List ℕ
-received = header 6 8 ++ edge_bytes 0 3 ++ edge_bytes 0 4 ++ edge_bytes 1 3 ++ edge_bytes 1 4 ++ edge_bytes 2 3 ++ edge_bytes 2 4 ++ edge_bytes 3 0 ++ edge_bytes 4 5
+received = header1 6 8 ++ edge_bytes 0 3 ++ edge_bytes 0 4 ++ edge_bytes 1 3 ++ edge_bytes 1 4 ++ edge_bytes 2 3 ++ edge_bytes 2 4 ++ edge_bytes 3 0 ++ edge_bytes 4 5
 
 abbrev pub confirmed : List ℕ
-confirmed = header 6 7 ++ edge_bytes 0 3 ++ edge_bytes 0 4 ++ edge_bytes 1 3 ++ edge_bytes 1 4 ++ edge_bytes 2 3 ++ edge_bytes 2 4 ++ edge_bytes 4 5
+confirmed = header2 6 7 ++ kinded 0 3 0 ++ kinded 0 4 0 ++ kinded 1 3 0 ++ kinded 1 4 0 ++ kinded 2 3 0 ++ kinded 2 4 0 ++ kinded 4 5 0
 
 -- 02, wish 12: a ring of two vouchers and two vouched members that lacks the link from 0 to 2, and with it
 abbrev pub one_short : List ℕ
-one_short = header 4 3 ++ edge_bytes 0 3 ++ edge_bytes 1 2 ++ edge_bytes 1 3
+one_short = header1 4 3 ++ edge_bytes 0 3 ++ edge_bytes 1 2 ++ edge_bytes 1 3
 
 abbrev pub one_more : List ℕ
-one_more = header 4 4 ++ edge_bytes 0 2 ++ edge_bytes 0 3 ++ edge_bytes 1 2 ++ edge_bytes 1 3
+one_more = header1 4 4 ++ edge_bytes 0 2 ++ edge_bytes 0 3 ++ edge_bytes 1 2 ++ edge_bytes 1 3
 
 -- the ring of W, and that of W of other members
 abbrev pub w_ring : Ring
@@ -212,11 +228,19 @@ other_ring = record { x = 2; y = 3; S = 3 ∷ 4 ∷ 5 ∷ []; T = 0 ∷ 1 ∷ []
 
 -- 02's example: a star of four vouchers round member 4, and a ring of two vouchers and two vouched members
 abbrev pub star_and_ring : List ℕ
-star_and_ring = header 9 8 ++ edge_bytes 0 4 ++ edge_bytes 1 4 ++ edge_bytes 2 4 ++ edge_bytes 3 4 ++ edge_bytes 5 7 ++ edge_bytes 5 8 ++ edge_bytes 6 7 ++ edge_bytes 6 8
+star_and_ring = header1 9 8 ++ edge_bytes 0 4 ++ edge_bytes 1 4 ++ edge_bytes 2 4 ++ edge_bytes 3 4 ++ edge_bytes 5 7 ++ edge_bytes 5 8 ++ edge_bytes 6 7 ++ edge_bytes 6 8
 
 -- 02, wish 6: a star of five one-off vouchers, 1 to 5, round member 0, and a ring of two vouchers, 6 and 7, and two vouched members, 1 and 2
 abbrev pub one_offs : List ℕ
-one_offs = header 8 9 ++ edge_bytes 1 0 ++ edge_bytes 2 0 ++ edge_bytes 3 0 ++ edge_bytes 4 0 ++ edge_bytes 5 0 ++ edge_bytes 6 1 ++ edge_bytes 6 2 ++ edge_bytes 7 1 ++ edge_bytes 7 2
+one_offs = header1 8 9 ++ edge_bytes 1 0 ++ edge_bytes 2 0 ++ edge_bytes 3 0 ++ edge_bytes 4 0 ++ edge_bytes 5 0 ++ edge_bytes 6 1 ++ edge_bytes 6 2 ++ edge_bytes 7 1 ++ edge_bytes 7 2
+
+-- 02, wish 13: a star of five links round member 0, which weigh 1, and a ring of two vouchers, 0 and 1, and two vouched members, 2 and 3, whose links are
+-- of the kinds 1 and 2, which weigh 1 and 2; and the same links as orders
+abbrev pub visits : List ℕ
+visits = header2 6 9 ++ kinded 0 2 2 ++ kinded 0 3 1 ++ kinded 1 0 0 ++ kinded 1 2 1 ++ kinded 1 3 2 ++ kinded 2 0 0 ++ kinded 3 0 1 ++ kinded 4 0 0 ++ kinded 5 0 0
+
+abbrev pub orders_alone : List ℕ
+orders_alone = header1 6 9 ++ edge_bytes 0 2 ++ edge_bytes 0 3 ++ edge_bytes 1 0 ++ edge_bytes 1 2 ++ edge_bytes 1 3 ++ edge_bytes 2 0 ++ edge_bytes 3 0 ++ edge_bytes 4 0 ++ edge_bytes 5 0
 
 -- a month over 2 members, which meets each number but 19 and 20
 abbrev pub month : List ℕ
@@ -283,7 +307,7 @@ abbrev pub says_in : List ℕ → List ℕ → List ℕ → Claim → Case
 says_in f A B c = record { file = f; sources = members A; targets = members B; claim = c }
 
 -- P1 to P9, W's report and W's layers, 02's example, some of these inside A and B, the harmonic finder, zero bytes, the limits of a file, links that
--- do not ascend, journals, findings compared, the links in both of two files, then a link more
+-- do not ascend, journals, findings compared, the links in both of two files, a link more, then kinds
 unfoldable pub cases : List Case
 cases =
     -- P1
@@ -325,9 +349,9 @@ cases =
     ∷ says_in W (3 ∷ 4 ∷ []) (0 ∷ 1 ∷ 2 ∷ []) (finding 0 0 0 [] [] 0)
     ∷ says_in W (3 ∷ 4 ∷ []) (0 ∷ 1 ∷ 2 ∷ []) (layers (0 ∷ 0 ∷ 0 ∷ 0 ∷ 0 ∷ 0 ∷ 0 ∷ 0 ∷ []) [])
     -- P6
-    ∷ says (header 4 3 ++ edge_bytes 0 1 ++ edge_bytes 0 2 ++ edge_bytes 0 3) (finding 3 1 1 (0 ∷ []) (1 ∷ 2 ∷ 3 ∷ []) 3)
+    ∷ says (header1 4 3 ++ edge_bytes 0 1 ++ edge_bytes 0 2 ++ edge_bytes 0 3) (finding 3 1 1 (0 ∷ []) (1 ∷ 2 ∷ 3 ∷ []) 3)
     -- P7
-    ∷ says (header 6 4 ++ edge_bytes 0 1 ++ edge_bytes 0 2 ++ edge_bytes 3 5 ++ edge_bytes 4 5) (finding 1 2 1 (3 ∷ 4 ∷ []) (5 ∷ []) 2)
+    ∷ says (header1 6 4 ++ edge_bytes 0 1 ++ edge_bytes 0 2 ++ edge_bytes 3 5 ++ edge_bytes 4 5) (finding 1 2 1 (3 ∷ 4 ∷ []) (5 ∷ []) 2)
     -- a ring beside a star of equal product (02, wish 4), and their layers
     ∷ says star_and_ring (finding 2 2 2 (5 ∷ 6 ∷ []) (7 ∷ 8 ∷ []) 4)
     ∷ says star_and_ring (layers (2 ∷ 2 ∷ 2 ∷ 2 ∷ 1 ∷ 1 ∷ 1 ∷ 1 ∷ []) (
@@ -341,51 +365,51 @@ cases =
     ∷ record { x = 1; y = 1; S = 5 ∷ []; T = 7 ∷ []; E = 1 }
     ∷ []))
     -- P8
-    ∷ says (header 1 1 ++ edge_bytes 0 0) (finding 1 1 1 (0 ∷ []) (0 ∷ []) 1)
+    ∷ says (header1 1 1 ++ edge_bytes 0 0) (finding 1 1 1 (0 ∷ []) (0 ∷ []) 1)
     -- P9, by 02, wish 3: nothing is found, and there is no layer
-    ∷ says (header 1 0) (finding 0 0 0 [] [] 0)
-    ∷ says (header 1 0) (layers [] [])
+    ∷ says (header1 1 0) (finding 0 0 0 [] [] 0)
+    ∷ says (header1 1 0) (layers [] [])
     -- the harmonic finder on W (02, wish 6)
     ∷ says W (harmonic (0 ∷ 1 ∷ 2 ∷ []) (3 ∷ 4 ∷ []) 6)
     -- the finding is the star, and the harmonic finder finds the ring
     ∷ says one_offs (finding 1 5 2 (1 ∷ 2 ∷ 3 ∷ 4 ∷ 5 ∷ []) (0 ∷ []) 5)
     ∷ says one_offs (harmonic (6 ∷ 7 ∷ []) (1 ∷ 2 ∷ []) 4)
     -- a tie of sides goes to the voucher side: with the vouched side first, or the smaller member on either side, it is 0 and 1 with 0, 1 and 2
-    ∷ says (header 3 3 ++ edge_bytes 0 0 ++ edge_bytes 0 2 ++ edge_bytes 1 1) (harmonic (0 ∷ []) (0 ∷ 2 ∷ []) 2)
+    ∷ says (header1 3 3 ++ edge_bytes 0 0 ++ edge_bytes 0 2 ++ edge_bytes 1 1) (harmonic (0 ∷ []) (0 ∷ 2 ∷ []) 2)
     -- a tie of vouchers goes to the smaller member: with the larger first it is 0, 1 and 2 with 0 and 1
-    ∷ says (header 3 3 ++ edge_bytes 0 0 ++ edge_bytes 1 1 ++ edge_bytes 2 1) (harmonic (1 ∷ 2 ∷ []) (1 ∷ []) 2)
+    ∷ says (header1 3 3 ++ edge_bytes 0 0 ++ edge_bytes 1 1 ++ edge_bytes 2 1) (harmonic (1 ∷ 2 ∷ []) (1 ∷ []) 2)
     -- so does a tie of vouched members: with the larger first it is 0 and 1 with everyone
-    ∷ says (header 5 5 ++ edge_bytes 0 0 ++ edge_bytes 0 1 ++ edge_bytes 1 2 ++ edge_bytes 1 3 ++ edge_bytes 1 4) (harmonic (1 ∷ []) (2 ∷ 3 ∷ 4 ∷ []) 3)
+    ∷ says (header1 5 5 ++ edge_bytes 0 0 ++ edge_bytes 0 1 ++ edge_bytes 1 2 ++ edge_bytes 1 3 ++ edge_bytes 1 4) (harmonic (1 ∷ []) (2 ∷ 3 ∷ 4 ∷ []) 3)
     -- of states with equal measure the earliest is kept, here the first, everyone: the latest is 0 with 0 and 1
-    ∷ says (header 3 4 ++ edge_bytes 0 0 ++ edge_bytes 0 1 ++ edge_bytes 1 2 ++ edge_bytes 2 2) (harmonic (0 ∷ 1 ∷ 2 ∷ []) (0 ∷ 1 ∷ 2 ∷ []) 4)
+    ∷ says (header1 3 4 ++ edge_bytes 0 0 ++ edge_bytes 0 1 ++ edge_bytes 1 2 ++ edge_bytes 2 2) (harmonic (0 ∷ 1 ∷ 2 ∷ []) (0 ∷ 1 ∷ 2 ∷ []) 4)
     -- without links it finds empty groups, and so of zero bytes
-    ∷ says (header 1 0) (harmonic [] [] 0)
+    ∷ says (header1 1 0) (harmonic [] [] 0)
     ∷ says [] (harmonic [] [] 0)
     -- zero bytes count as the version 1 file with n 0 and m 0; from 1 to 8 bytes 1 is given
     ∷ says [] (has 0 0)
     ∷ says [] (finding 0 0 0 [] [] 0)
     ∷ says [] (layers [] [])
-    ∷ says (take 1 (header 0 0)) (gives (plain 1))
-    ∷ says (take 8 (header 0 0)) (gives (plain 1))
-    ∷ says (header 0 0) (has 0 0)
+    ∷ says (take 1 (header1 0 0)) (gives (plain 1))
+    ∷ says (take 8 (header1 0 0)) (gives (plain 1))
+    ∷ says (header1 0 0) (has 0 0)
     -- n: 2,048 is accepted, 2,049 is not
-    ∷ says (header 2048 0) (gives none)
-    ∷ says (header 2049 0) (gives (plain 4))
+    ∷ says (header1 2048 0) (gives none)
+    ∷ says (header1 2049 0) (gives (plain 4))
     -- m: of files with no link in them 8,192 is refused by the length, 8,193 by m itself
-    ∷ says (header 1 8192) (gives (plain 6))
-    ∷ says (header 1 8193) (gives (plain 5))
+    ∷ says (header1 1 8192) (gives (plain 6))
+    ∷ says (header1 1 8193) (gives (plain 5))
     -- a link that names n - 1 is accepted, one that names n or repeats an earlier one is refused with its number
-    ∷ says (header 3 1 ++ edge_bytes 2 2) (gives none)
-    ∷ says (header 3 1 ++ edge_bytes 2 3) (gives (at 7 0))
-    ∷ says (header 3 3 ++ edge_bytes 0 1 ++ edge_bytes 1 0 ++ edge_bytes 0 1) (gives (at 8 2))
+    ∷ says (header1 3 1 ++ edge_bytes 2 2) (gives none)
+    ∷ says (header1 3 1 ++ edge_bytes 2 3) (gives (at 7 0))
+    ∷ says (header1 3 3 ++ edge_bytes 0 1 ++ edge_bytes 1 0 ++ edge_bytes 0 1) (gives (at 8 2))
     -- links that do not ascend (02, wish 7): the first that comes before the one preceding it, by voucher and then by vouched; 8 comes first
     ∷ says mixed_w (gives (at 15 1))
-    ∷ says (header 3 3 ++ edge_bytes 0 1 ++ edge_bytes 0 0 ++ edge_bytes 0 1) (gives (at 8 2))
-    ∷ says (header 3 4 ++ edge_bytes 0 1 ++ edge_bytes 0 2 ++ edge_bytes 0 0 ++ edge_bytes 1 0) (gives (at 15 2))
-    ∷ says (header 3 2 ++ edge_bytes 0 2 ++ edge_bytes 1 0) (gives none)
+    ∷ says (header1 3 3 ++ edge_bytes 0 1 ++ edge_bytes 0 0 ++ edge_bytes 0 1) (gives (at 8 2))
+    ∷ says (header1 3 4 ++ edge_bytes 0 1 ++ edge_bytes 0 2 ++ edge_bytes 0 0 ++ edge_bytes 1 0) (gives (at 15 2))
+    ∷ says (header1 3 2 ++ edge_bytes 0 2 ++ edge_bytes 1 0) (gives none)
     -- by the old rule they are taken, and in order they are W; zero bytes are taken too
     ∷ says mixed_w (orders W)
-    ∷ says [] (orders (header 0 0))
+    ∷ says [] (orders (header1 0 0))
     -- a month (02, wish 8): it starts without links; the first is withdrawn, and is back after a return
     ∷ says month (follows 0 [] (0 ∷ 0 ∷ 0 ∷ 0 ∷ []))
     ∷ says month (follows 6 (take 6 month_numbers) (0 ∷ 1 ∷ 0 ∷ 0 ∷ []))
@@ -459,18 +483,21 @@ cases =
     ∷ says received (shares w_and_a_link confirmed 7 1 2)
     ∷ says confirmed (finding 2 3 2 (0 ∷ 1 ∷ 2 ∷ []) (3 ∷ 4 ∷ []) 6)
     -- of a file with itself it is the file, of a link and the one the other way nothing, and of two that are empty the file without links
-    ∷ says W (shares W W 8 0 0)
-    ∷ says (header 2 1 ++ edge_bytes 0 1) (shares (header 2 1 ++ edge_bytes 1 0) (header 2 0) 0 1 1)
-    ∷ says [] (shares (header 0 0) (header 0 0) 0 0 0)
+    ∷ says W (shares W w_of_kinds 8 0 0)
+    ∷ says (header1 2 1 ++ edge_bytes 0 1) (shares (header1 2 1 ++ edge_bytes 1 0) (header2 2 0) 0 1 1)
+    ∷ says [] (shares (header1 0 0) (header2 0 0) 0 0 0)
+    -- two kinds of one weight are one link, which has the first file's kind, and a kind of another weight is another link (02, wish 13)
+    ∷ says (header2 2 2 ++ kinded 0 0 1 ++ kinded 0 1 2) (shares (header2 2 2 ++ kinded 0 0 0 ++ kinded 0 1 3) (header2 2 1 ++ kinded 0 0 1) 1 1 1)
+    ∷ says (header1 2 1 ++ edge_bytes 0 0) (shares (header2 2 1 ++ kinded 0 0 1) (header2 2 1 ++ kinded 0 0 0) 1 0 0)
     -- the first file's number comes before the second's, which comes before 21
     ∷ says mixed_w (pairs (take 8 W) 0 (at 15 1))
-    ∷ says (header 5 0) (pairs mixed_w 0 (at 15 1))
+    ∷ says (header1 5 0) (pairs mixed_w 0 (at 15 1))
     -- n: 21, before 9, also of zero bytes
     ∷ says W (pairs w_and_a_member 0 (plain 21))
     ∷ says [] (pairs W 0 (plain 21))
     -- the output is to hold the links in both, and no more
-    ∷ says w_and_a_link (pairs received 36 (plain 9))
-    ∷ says w_and_a_link (pairs received 37 none)
+    ∷ says w_and_a_link (pairs received 43 (plain 9))
+    ∷ says w_and_a_link (pairs received 44 none)
     ∷ says [] (pairs [] 8 (plain 9))
     ∷ says [] (pairs [] 9 none)
     -- what one vouch can move (02, wish 12): the equal level, the level of 2 and the level across for 2 rise by 1,
@@ -485,6 +512,30 @@ cases =
     ∷ says one_more (level 1 2)
     ∷ says_in one_short (1 ∷ []) (2 ∷ 3 ∷ []) (level 2 1)
     ∷ says_in one_more (1 ∷ []) (2 ∷ 3 ∷ []) (level 2 1)
+    -- kinds (02, wish 13): a ring that only weights make; the same links as orders find the star
+    ∷ says visits (finding 3 3 3 (0 ∷ 1 ∷ []) (2 ∷ 3 ∷ []) 6)
+    ∷ says orders_alone (finding 1 5 2 (1 ∷ 2 ∷ 3 ∷ 4 ∷ 5 ∷ []) (0 ∷ []) 5)
+    -- cores, levels, the harmonic pair and layers by weights, of which the layers' E add up to 11, not to 9
+    ∷ says visits (core 2 3 (0 ∷ 1 ∷ []) (2 ∷ 3 ∷ []) 6)
+    ∷ says visits (core 3 4 [] [] 0)
+    ∷ says visits (level 2 3)
+    ∷ says visits (across 3 3)
+    ∷ says visits (harmonic (0 ∷ 1 ∷ []) (2 ∷ 3 ∷ []) 6)
+    ∷ says visits (layers (1 ∷ 1 ∷ 2 ∷ 1 ∷ 1 ∷ 2 ∷ 2 ∷ 2 ∷ 2 ∷ []) (
+    record { x = 3; y = 3; S = 0 ∷ 1 ∷ []; T = 2 ∷ 3 ∷ []; E = 6 }
+    ∷ record { x = 1; y = 5; S = 1 ∷ 2 ∷ 3 ∷ 4 ∷ 5 ∷ []; T = 0 ∷ []; E = 5 }
+    ∷ []))
+    -- versions: 0 and 3 are refused, and a length is that of its own version
+    ∷ says (mark ++ u16 0 ++ u16 0 ++ u16 0) (gives (plain 3))
+    ∷ says (mark ++ u16 3 ++ u16 0 ++ u16 0) (gives (plain 3))
+    ∷ says (header2 2 1 ++ edge_bytes 0 1) (gives (plain 6))
+    ∷ says (header1 2 1 ++ kinded 0 1 0) (gives (plain 6))
+    ∷ says (header2 0 0) (has 0 0)
+    -- a kind above 7: the first such link, after 7 and before 8; the same pair twice is a repeat even with two kinds
+    ∷ says (header2 2 2 ++ kinded 0 0 7 ++ kinded 0 1 8) (gives (at 22 1))
+    ∷ says (header2 2 3 ++ kinded 0 0 8 ++ kinded 0 0 0 ++ kinded 0 2 0) (gives (at 7 2))
+    ∷ says (header2 2 3 ++ kinded 0 0 0 ++ kinded 0 0 0 ++ kinded 0 1 8) (gives (at 22 2))
+    ∷ says (header2 2 2 ++ kinded 0 1 0 ++ kinded 0 1 7) (gives (at 8 1))
     ∷ []
 
 -- every case's claim holds

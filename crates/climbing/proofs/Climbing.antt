@@ -28,7 +28,7 @@ pub record Climbing (e : Extent) (rise : Rise) (fixed start : ℕ) (w w' : List 
 module _ {e : Extent} {rise : Rise} {fixed start k : ℕ} {w w' : List ℕ} {s : Peel} (o : Climbing e rise fixed start w w' k s) where
   -- while neither side is empty, a place is left that rises
   pub climb-some : emptied s ≡ false → {c : Scope} → c ≡ asked e rise fixed k → Some (rests c rise w') (2 * c.extent.order)
-  climb-some z a = let (p, q) = sides-some s z in rw a (rests-some e rise fixed k o.ended.peeling p q)
+  climb-some z a = let (p, q) = sides-some s z in rw a (rests-some (asked e rise fixed k) o.ended.peeling rise p q)
 
   module _ {r : ℕ} {c : Scope} (a : c ≡ asked e rise fixed k) (least : Least (rests c rise w') (degree_of c.extent.order c.extent.size w') (2 * c.extent.order) r) where
     -- k is at most the least degree of these

@@ -1,6 +1,5 @@
 pub mod Asks
 pub mod Leasts
-pub mod Longest
 pub mod Turns
 pub mod Climbing
 pub mod Levels

@@ -4,7 +4,7 @@ use Rattle.graph.specs.Graph.{Graph, Group}
 use Rattle.graph.specs.Core.{Nonempty, Level, LevelAcross, EqualLevel}
 use Rattle.network.specs.declared.Extent.{Extent}
 use Rattle.peeling.specs.declared.Scope.{Scope}
-use Rattle.peeling.specs.Peeling.{Tabled, Kept, row_length, degree_of, need_of}
+use Rattle.peeling.specs.Peeling.{Tabled, Kept, degree_of, need_of}
 use Rattle.climbing.specs.declared.Rise.{Rise}
 use Rattle.climbing.specs.declared.Rise.TheVariants.{Targets, Sources, Both}
 
@@ -62,10 +62,10 @@ pub record Some (P : Group) (N : ℕ) : Type 0 where
   pub below : number < N
   pub passes : P number ≡ true
 
--- k is the length of the longest row of the places below N that pass the test, or 0 where none of them has an entry
-pub record Longest (P : Group) (w : List ℕ) (N k : ℕ) : Type 0 where
-  pub all : (p : ℕ) → p < N → P p ≡ true → row_length w p ≤ k
-  pub reached : 1 ≤ k → Some (λ p. P p && leb k (row_length w p)) N
+-- k is the greatest of d p for the numbers p below N that pass the test, or 0 where none of them has more
+pub record Heaviest (P : Group) (d : ℕ → ℕ) (N k : ℕ) : Type 0 where
+  pub all : (p : ℕ) → p < N → P p ≡ true → d p ≤ k
+  pub reached : 1 ≤ k → Some (λ p. P p && leb k (d p)) N
 
 -- k is the least of d p for the numbers p below N that pass the test
 pub record Least (P : Group) (d : ℕ → ℕ) (N k : ℕ) : Type 0 where

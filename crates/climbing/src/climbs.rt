@@ -3,7 +3,7 @@
 // still holds the same table.
 ghost use Rattle.std.specs.Prelude.{true, false, ◌≡◌, ℕ, ◌+◌, ◌*◌, ◌<◌, ◌≤◌, leb, ltb, length};
 ghost use Rattle.network.specs.Refusals.{work_length};
-ghost use Rattle.peeling.specs.Peeling.{Held, Ended, need_of, degree_of};
+ghost use Rattle.peeling.specs.Peeling.{Weighed, Ended, need_of, degree_of};
 ghost use Rattle.climbing.specs.Climbs.{asked, first_rising, end_rising, rising, rests, Some, Least, Climbed};
 
 use crate::Rise;
@@ -13,7 +13,7 @@ use raising::{Step, advance, whole, whole_from};
 
 impl Rise {
     // What is asked of places at k.
-    fn asked(self, extent: Extent, fixed: usize, k: usize) -> Scope
+    pub fn asked(self, extent: Extent, fixed: usize, k: usize) -> Scope
         ensures { result ≡ asked extent self fixed k }
     {
         let alike = Scope::of(extent, k, k);
@@ -68,29 +68,36 @@ pub fn least_left(work: &[u16], scope: Scope, rise: Rise, k: usize) -> usize
     usize::from(least)
 }
 
-// The peel of the whole graph for what is asked at the start of a climb. Where one side rises, much may be asked of it at once: the peel begins
+// The peel of the whole graph for what is asked at the start of a climb or of a search. Where one side rises, much may be asked of it at once: the peel begins
 // with that side.
-fn begin(work: &mut [u16], scope: Scope, rise: Rise) -> Peel
-    requires { Held scope.extent.order scope.extent.size work.old }
+pub fn begin(work: &mut [u16], degrees: &[u16], scope: Scope, rise: Rise) -> Peel
+    requires { Weighed scope.extent.order scope.extent.size work.old degrees.now }
     ensures { Ended false scope work.old work.new result }
 {
     match rise {
-        Rise::Targets => whole_from(work, scope, Side::Target),
-        Rise::Sources => whole_from(work, scope, Side::Source),
-        Rise::Both => whole(work, scope, false),
+        Rise::Targets => whole_from(work, degrees, scope, Side::Target),
+        Rise::Sources => whole_from(work, degrees, scope, Side::Source),
+        Rise::Both => whole(work, degrees, scope, false),
     }
 }
 
 // The last k from `start` on at which the core is not empty, or start - 1. Nothing changes up to the least degree that is left on the
 // sides that rise, so k goes straight past it, and at each turn somebody becomes short. The queue is not drained: a peel is over as soon as
 // a side is empty.
-pub fn climb(work: &mut [u16], extent: Extent, rise: Rise, fixed: usize, start: usize) -> usize
-    requires held { Held extent.order extent.size work.old }
+pub fn climb(
+    work: &mut [u16],
+    degrees: &[u16],
+    extent: Extent,
+    rise: Rise,
+    fixed: usize,
+    start: usize,
+) -> usize
+    requires weighed { Weighed extent.order extent.size work.old degrees.now }
     requires start { 1 ≤ start }
     ensures { Climbed extent.order extent.size rise fixed start work.old work.new result }
 {
     let mut k = start;
-    let mut peel = begin(work, rise.asked(extent, fixed, start), rise);
+    let mut peel = begin(work, degrees, rise.asked(extent, fixed, start), rise);
     let last = loop {
         if peel.is_empty() {
             break k - 1;

@@ -2,7 +2,7 @@
 #![tactic(auto)]
 
 mod climbs;
-mod lengths;
+mod degrees;
 
 // What a climb raises: what targets need, what sources need, or both alike. What is fixed stands beside it: of the functions that take a `Rise` only
 // `asked` looks at it, and where both rise nothing does.
@@ -13,5 +13,5 @@ pub enum Rise {
     Both,
 }
 
-pub use climbs::climb;
-pub use lengths::longest_row;
+pub use climbs::{begin, climb, least_left};
+pub use degrees::heaviest;

@@ -29,7 +29,7 @@ use Rattle.cores.proofs.Copying.{kept-inside}
 use Rattle.cores.proofs.WayIn.{entry-none, not-zero, equal-entry, level-entry, entered-groups}
 
 -- the core of the links from A to B, with its groups kept inside A and B, is the core inside them
-pub core-told : {f a b s s₁ s₂ t t₁ t₂ w w₁ w₂ : List ℕ} (c : Scope) {r : Totals} {x y i j : ℕ} → Entered f a b (length s) (length t) w w₁ c.extent.order c.extent.size
+pub core-told : {f a b s s₁ s₂ t t₁ t₂ w w₁ w₂ d : List ℕ} (c : Scope) {r : Totals} {x y i j : ℕ} → Entered f a b (length s) (length t) w w₁ d c.extent.order c.extent.size
     → CoreIn c w₁ w₂ s s₁ t t₁ r → c.x ≡ x → c.y ≡ y → KeptInside x c.extent.order a s₁ s₂ r.sources i → KeptInside y c.extent.order b t₁ t₂ r.targets j
     → CoreTold f a b x y s s₂ t t₂ w w₂ (record { edges = r.edges; sources = i; targets = j })
 core-told {f} {a} {b} {s} {s₁} {s₂} {t} {t₁} {t₂} c {r} {x} {y} e h p q s-kept t-kept =

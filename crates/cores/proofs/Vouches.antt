@@ -21,9 +21,9 @@ told f a b later c = let (n, (h, kept)) = call-ok c in (((or_else-both _ later).
 -- 02: so the numbers rise as the levels do
 pub one-vouch-told : OneVouchTold
 unfolding level_refusal equal_level_refusal
-one-vouch-told f f' u v m a b =
+one-vouch-told f f' u v m p q a b =
     record {
-      level = λ x k k' w w' z z' c d. let (e, h) = told f _ _ _ c in (one-vouch f f' u v e m).level _ _ x k k' h (told f' _ _ _ d).1;
-      level_across = λ y k k' w w' z z' c d. let (e, h) = told f _ _ _ c in (one-vouch f f' u v e m).level_across _ _ y k k' h (told f' _ _ _ d).1;
-      equal_level = λ k k' w w' z z' c d. let (e, h) = told f _ _ _ c in (one-vouch f f' u v e m).equal_level _ _ k k' h (told f' _ _ _ d).1;
+      level = λ x k k' w w' z z' c d. let (e, h) = told f _ _ _ c in (one-vouch f f' u v e m p q).level _ _ x k k' h (told f' _ _ _ d).1;
+      level_across = λ y k k' w w' z z' c d. let (e, h) = told f _ _ _ c in (one-vouch f f' u v e m p q).level_across _ _ y k k' h (told f' _ _ _ d).1;
+      equal_level = λ k k' w w' z z' c d. let (e, h) = told f _ _ _ c in (one-vouch f f' u v e m p q).equal_level _ _ k k' h (told f' _ _ _ d).1;
     }

@@ -96,10 +96,10 @@ level-entry f a b x w = rw (no-groups (graph_of f).order (graph_of f).size w (sh
 
 module _ (ask : Option ℕ) {f a b : List ℕ} (s t : ℕ) {w w' : List ℕ} where
   -- a way in that is refused leaves the work table as it was
-  pub entry-refused : {q : Refusal} → EntryCall f a b ask s t w w' (Err q) → (entry_refusal ask f a b s t (length w) ≡ Some q) × (w' ≡ w)
+  pub entry-refused : {d : List ℕ} {q : Refusal} → EntryCall f a b ask s t w w' d (Err q) → (entry_refusal ask f a b s t (length w) ≡ Some q) × (w' ≡ w)
   entry-refused c = let (e, k) = call-err c in (e, cc)
 
-module _ {f a b : List ℕ} {s t : ℕ} {w w₁ : List ℕ} {n m : ℕ} (i : Entered f a b s t w w₁ n m) where
+module _ {f a b : List ℕ} {s t : ℕ} {w w₁ d : List ℕ} {n m : ℕ} (i : Entered f a b s t w w₁ d n m) where
   -- what a walk leaves past the entries that are needed is what was there at first
   pub entered-kept : {w₂ : List ℕ} → Kept n m w₁ w₂ → WorkKept f w w₂
   entered-kept {w₂} k =

@@ -2,6 +2,7 @@
 use Rattle.std.specs.Prelude.{ℕ, List, [], ◌∷◌, ◌≡◌, Option, Result, Ok, length, drop}
 use Rattle.graph.specs.Core.{Inside, CoreInside, LevelInside, LevelAcrossInside, EqualLevelInside}
 use Rattle.graph.specs.Rises.{Rises}
+use Rattle.graph.specs.Shapes.{Single}
 use Rattle.network.specs.declared.Refusal.{Refusal}
 use Rattle.network.specs.declared.Totals.{Totals}
 use Rattle.network.specs.File.{graph_of}
@@ -63,6 +64,6 @@ pub record NumbersRise (f f' a b : List ℕ) : Type 0 where
   -- and the equal level
   pub equal_level : (k k' : ℕ) (w₁ w₁' w₂ w₂' : List ℕ) → EqualLevelCall f a b w₁ w₁' (Ok k) → EqualLevelCall f' a b w₂ w₂' (Ok k') → Rises k k'
 
--- so it is where f' holds one link more than f
+-- so it is where f' holds one link more than f; 02, wish 13: where every link weighs 1
 abbrev pub OneVouchTold : Type 0
-OneVouchTold = (f f' : List ℕ) (u v : ℕ) → Vouched f f' u v → (a b : List ℕ) → NumbersRise f f' a b
+OneVouchTold = (f f' : List ℕ) (u v : ℕ) → Vouched f f' u v → Single (graph_of f) → Single (graph_of f') → (a b : List ℕ) → NumbersRise f f' a b

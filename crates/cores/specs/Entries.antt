@@ -10,7 +10,7 @@ use Rattle.network.specs.Groups.{group_of, bytes_of}
 use Rattle.network.specs.Refusals.{short_groups, in_groups, work_length}
 use Rattle.network.specs.Accepted.{Accepted}
 use Rattle.network.specs.Calls.{Call}
-use Rattle.peeling.specs.Peeling.{Tabled}
+use Rattle.peeling.specs.Peeling.{Tabled, Weighed}
 use Rattle.climbing.specs.declared.Rise.{Rise}
 use Rattle.climbing.specs.Climbs.{LevelOf}
 use Rattle.cores.specs.Calls.{WorkKept}
@@ -37,19 +37,21 @@ pub record LongFor (n m : ℕ) (a b : List ℕ) (s t w : ℕ) : Type 0 where
   pub targets : n ≤ t
   pub work : work_length n m ≤ w
 
--- the file is accepted, all tables are long enough, and the work table holds the links from A to B of its network of n members, m of them at most
-pub record Entered (f a b : List ℕ) (s t : ℕ) (w w' : List ℕ) (n m : ℕ) : Type 0 where
+-- The file is accepted, all tables are long enough, and the work table holds the links from A to B of its network of n members, m of them at most;
+-- table d has the degrees of all places.
+pub record Entered (f a b : List ℕ) (s t : ℕ) (w w' d : List ℕ) (n m : ℕ) : Type 0 where
   pub accepted : Accepted f
   pub order : n ≡ (graph_of f).order
   pub size : m ≤ (graph_of f).size
   pub long : LongFor (graph_of f).order (graph_of f).size a b s t (length w)
   pub tabled : Tabled (within (graph_of f) (group_of a) (group_of b)) n m w'
+  pub weighed : Weighed n m w' d
   pub work : WorkKept f w w'
 
 -- the way in: n, and the number of links from A to B
-abbrev pub EntryCall : List ℕ → List ℕ → List ℕ → Option ℕ → ℕ → ℕ → List ℕ → List ℕ → Result Extent Refusal → Type 0
-EntryCall f a b ask s t w w' =
-    Call (entry_refusal ask f a b s t (length w)) (w ∷ []) (w' ∷ []) (λ e. Entered f a b s t w w' e.order e.size)
+abbrev pub EntryCall : List ℕ → List ℕ → List ℕ → Option ℕ → ℕ → ℕ → List ℕ → List ℕ → List ℕ → Result Extent Refusal → Type 0
+EntryCall f a b ask s t w w' d =
+    Call (entry_refusal ask f a b s t (length w)) (w ∷ []) (w' ∷ []) (λ e. Entered f a b s t w w' d e.order e.size)
 
 -- the links from A to B have this level, of its kind
 abbrev pub LevelWithin : List ℕ → List ℕ → List ℕ → Rise → ℕ → ℕ → Type 0

@@ -8,7 +8,7 @@ use crate::groups::keep_inside;
 use climbing::{Rise, climb};
 use grouping::core_in;
 use network::{Refusal, Totals};
-use peeling::Scope;
+use peeling::{MOST_PLACES, Scope};
 
 // 01: the core call, inside A and B.
 pub fn core(
@@ -23,9 +23,10 @@ pub fn core(
 ) -> Result<Totals, Refusal>
     ensures { CoreCall file.now a.now b.now x y s.old s.new t.old t.new work.old work.new result }
 {
-    let extent = enter(file, a, b, None, s.len(), t.len(), work)?;
+    let mut degrees = [0u16; MOST_PLACES];
+    let extent = enter(file, a, b, None, s.len(), t.len(), work, &mut degrees)?;
     let scope = Scope::of(extent, usize::from(x), usize::from(y));
-    let totals = core_in(work, scope, s, t);
+    let totals = core_in(work, &degrees, scope, s, t);
     let n = extent.order;
     Ok(Totals {
         edges: totals.edges,
@@ -47,9 +48,10 @@ fn level_along(
 ) -> Result<usize, Refusal>
     ensures { LevelBy (entry_refusal ask file.now a.now b.now (length work.old) (length work.old) (length work.old)) file.now (LevelWithin file.now a.now b.now rise fixed) work.old work.new result }
 {
+    let mut degrees = [0u16; MOST_PLACES];
     let length = work.len();
-    let extent = enter(file, a, b, ask, length, length, work)?;
-    Ok(climb(work, extent, rise, fixed, 1))
+    let extent = enter(file, a, b, ask, length, length, work, &mut degrees)?;
+    Ok(climb(work, &degrees, extent, rise, fixed, 1))
 }
 
 // 01: the level of x.

@@ -1,6 +1,6 @@
 // The one way in: the file and the tables are checked, and the links from A to B are laid into the work table.
-ghost use Rattle.std.specs.Prelude.{◌≤◌, ◌||◌, ◌≡◌, ltb, length, None, Some, IfErr, IfOk, OnOk};
-ghost use Rattle.network.specs.File.{graph_of};
+ghost use Rattle.std.specs.Prelude.{◌*◌, ◌≤◌, ◌||◌, ◌≡◌, ltb, length, None, Some, IfErr, IfOk, OnOk};
+ghost use Rattle.network.specs.File.{most_members, graph_of};
 ghost use Rattle.network.specs.Refusals.{short_groups, work_length};
 ghost use Rattle.cores.specs.Entries.{later_refusal, EntryCall};
 
@@ -59,22 +59,19 @@ pub fn check_within<'a>(
 ) -> Result<Within<'a>, Refusal>
     ensures refused { IfErr result (λ r. later_refusal ask (graph_of file.now.bytes.now).order (graph_of file.now.bytes.now).size a.now b.now s t work ≡ Some r) }
     ensures none { OnOk result (later_refusal ask (graph_of file.now.bytes.now).order (graph_of file.now.bytes.now).size a.now b.now s t work ≡ None) }
-    ensures passed { IfOk result (λ w. (w.bytes.now ≡ file.now.bytes.now) × (w.a.now ≡ a.now) × (w.b.now ≡ b.now)) }
+    ensures passed { IfOk result (λ w. (w.file.bytes.now ≡ file.now.bytes.now) × (w.a.now ≡ a.now) × (w.b.now ≡ b.now)) }
 {
     let extent = Extent {
         order: order_of(file.bytes),
         size: size_of(file.bytes),
     };
     check_later(ask, extent, a, b, s, t, work)?;
-    Ok(Within {
-        bytes: file.bytes,
-        a,
-        b,
-    })
+    Ok(Within { file: *file, a, b })
 }
 
 // Every call on cores begins here: the file, then the lengths of A and B, of two groups and of the work table, then the bytes of A and B, then
-// the number that is asked for, if one is. Where nothing is refused, the work table holds the links from A to B; how many they are is the size.
+// the number that is asked for, if one is. Where nothing is refused, the work table holds the links from A to B; how many they are is the size. The
+// table of degrees, with which every peel begins, is the call's own: the lent one is full.
 pub fn enter(
     file: &[u8],
     a: &[u8],
@@ -83,12 +80,14 @@ pub fn enter(
     s: usize,
     t: usize,
     work: &mut [u16],
+    degrees: &mut [u16],
 ) -> Result<Extent, Refusal>
-    ensures { EntryCall file.now a.now b.now ask s t work.old work.new result }
+    requires places { 2 * most_members ≤ length degrees.old }
+    ensures { EntryCall file.now a.now b.now ask s t work.old work.new degrees.new result }
 {
     let file = check_file(file)?;
     let links = check_within(ask, &file, a, b, s, t, work.len())?;
-    let size = fill_within(&links, work);
+    let size = fill_within(&links, work, degrees);
     Ok(Extent {
         order: order_of(file.bytes),
         size,

@@ -1,13 +1,14 @@
 -- How often an edge stands in the front of a list, and the list of the edges of a graph, which grows edge by edge.
-use Prim.Native.Nat.{ℕ, ◌+◌, ◌<◌, ◌≤◌}
-use mathlib.Core.Bool.{Bool, true, false}
+use Prim.Native.Nat.{ℕ, ◌+◌, ◌*◌, ◌<◌, ◌≤◌}
+use mathlib.Core.Bool.{Bool, true, false, ◌&&◌, and-true, and-false}
 use mathlib.Core.List.{List}
 use mathlib.Core.Logic.{◌≢◌}
 use mathlib.Core.Path.{◌≡◌, refl, sym, ap, ◌∙◌}
-use native.Mathlib.Decide.{ℕ_discrete}
+use native.Mathlib.Decide.{ℕ_discrete, dec_le, dec_lt}
+use native.Mathlib.Nat.{one-mul, zero-mul}
 use native.Mathlib.Omega.{arith}
-use borrow.Author.Tests.{eq-eqb, eqb-true}
-use lib.Dec.{eqb}
+use borrow.Author.Tests.{eq-eqb, eqb-true, le-leb}
+use lib.Dec.{eqb, leb}
 use lib.ListN.{length, get_or, set, take, length-set}
 use lib.Seq.{get_or-set_same, get_or-set_other, length-take-le, get_or-take}
 use Rattle.graph.specs.Range.{if}
@@ -49,7 +50,7 @@ times-put l r d h a = more
 
 -- a list with the same front is of the same graph,
 pub list_same : {g : Graph} {l l' : List ℕ} {k : ℕ} → ((i : ℕ) → i < k → get_or l i 0 ≡ get_or l' i 0) → ListOf g l k → ListOf g l' k
-list_same {l = l} {l'} {k} h a = record { below = λ i m. rw (← h i m) (a.below i m); weighs = λ e m. sym (times-same l l' k e h) ∙ a.weighs e m }
+list_same {l = l} {l'} {k} h a = record { below = λ i m. rw (← h i m) (a.below i m); once = λ e m. sym (times-same l l' k e h) ∙ a.once e m }
 
 -- and so is the front by itself
 pub list-front : {g : Graph} {l : List ℕ} {k s : ℕ} → s ≡ k → k ≤ length l → ListOf g l k → ListOf g (take s l) (length (take s l))
@@ -64,14 +65,14 @@ pub record Listing (g : Graph) (l₀ l : List ℕ) (e k : ℕ) : Type 0 where
   pub list : ListOf (front g e) l k
   pub same_length : length l ≡ length l₀
 
--- the next edge is put after the others, and counts there where it weighs
-pub listing-next : {g : Graph} {l₀ l : List ℕ} {e k r : ℕ} (b : Bool) → Listing g l₀ l e k → e < g.size → g.size ≤ length l₀ → g.weight e ≡ if b 1
+-- the next edge is put after the others, and counts there where it does not weigh 0
+pub listing-next : {g : Graph} {l₀ l : List ℕ} {e k r : ℕ} (b : Bool) → Listing g l₀ l e k → e < g.size → g.size ≤ length l₀ → leb 1 (g.weight e) ≡ b
     → r ≡ if b 1 → Listing g l₀ (set l k e) (e + 1) (k + r)
 listing-next {g} {l₀} {l} {e} {k} b a m long w q = rw q
     record {
       done = omega arith;
       few = omega (arith, a.few, if-le b 1);
-      list = record { below = below b; weighs = λ d n. times-put l k e room d b ∙ weighs d n (ℕ_discrete e d) };
+      list = record { below = below b; once = λ d n. times-put l k e room d b ∙ once d n (ℕ_discrete e d) };
       same_length = length-set l k e ∙ a.same_length;
     }
   where
@@ -85,19 +86,38 @@ listing-next {g} {l₀} {l} {e} {k} b a m long w q = rw q
     below false i n = old i (omega arith)
     below true i n = elim (ℕ_discrete i k) [ yes j ↦ omega (arith, ap (λ n. get_or (set l k e) n 0) j, get_or-set_same l k e 0 room) | no j ↦ old i (omega arith) ]
 
-    weighs : (d : ℕ) → d < e + 1 → Dec (e ≡ d) → times l k d + if b (if (eqb e d) 1) ≡ g.weight d
-    weighs d n (yes j) = omega (arith, times_none l k d (λ i h q. omega (arith, a.list.below i h)), ap (if b) (if-same e d 1 j), w, ap g.weight j)
-    weighs d n (no j) = omega (arith, a.list.weighs d (omega arith), ap (if b) (if-other e d 1 j), if-le b 0)
+    once : (d : ℕ) → d < e + 1 → Dec (e ≡ d) → times l k d + if b (if (eqb e d) 1) ≡ if (leb 1 (g.weight d)) 1
+    once d n (yes j) =
+        omega (arith, times_none l k d (λ i h q. omega (arith, a.list.below i h)), ap (if b) (if-same e d 1 j), ap (λ t. if t 1) (sym w), ap (λ d. if (leb 1 (g.weight d)) 1) j)
+    once d n (no j) = omega (arith, a.list.once d (omega arith), ap (if b) (if-other e d 1 j), if-le b 0)
 
--- the numbers counted up are the list of a graph in which each edge weighs 1
-pub list_all : {g : Graph} {l : List ℕ} → ((i : ℕ) → i < g.size → get_or l i 0 ≡ i) → ((e : ℕ) → e < g.size → g.weight e ≡ 1) → ListOf g l g.size
-list_all {g} each one =
+-- the numbers counted up are the list of a graph in which no edge weighs 0
+pub list_all : {g : Graph} {l : List ℕ} → ((i : ℕ) → i < g.size → get_or l i 0 ≡ i) → ((e : ℕ) → e < g.size → 1 ≤ g.weight e) → ListOf g l g.size
+list_all {g} each some =
     record {
       below = λ i h. omega (arith, each i h);
-      weighs = λ e h. sum-ext g.size (λ i m. rw (each i m, eqb-sym i e)) ∙ sum-pick (λ i. 1) g.size e h ∙ sym (one e h);
+      once = λ e h. sum-ext g.size (λ i m. rw (each i m, eqb-sym i e)) ∙ sum-pick (λ i. 1) g.size e h ∙ rw (le-leb 1 (g.weight e) (some e h));
     }
 
--- and so it does from everyone to everyone
+-- no edge stands twice in the list of a graph
+pub list_once : {g : Graph} {l : List ℕ} {k : ℕ} → ListOf g l k → (e : ℕ) → times l k e ≤ 1
+list_once {g} {l} {k} a e =
+    elim (dec_lt e g.size) [
+      | yes h ↦ omega (arith, a.once e h, if-le (leb 1 (g.weight e)) 1)
+      | no h ↦ omega (arith, times_none l k e (λ i m q. omega (arith, a.below i m)))
+    ]
+
+-- so by the list it weighs what it does in a graph that keeps some of the edges
+pub list-weighs : (b : Bool) (w : ℕ) → if (leb 1 (if b w)) 1 * w ≡ if b w
+list-weighs false w = zero-mul w
+list-weighs true w = elim (dec_le 1 w) [ yes h ↦ rw (le-leb 1 w h) (one-mul w) | no h ↦ (let e : w ≡ 0 = omega arith in rw e) ]
+
+-- an edge that is kept where it passes a test does not weigh 0 where it passes it, and does not weigh 0 without it
+pub keeps-some : (b : Bool) (w : ℕ) → leb 1 (if b w) ≡ (leb 1 w && b)
+keeps-some true w = sym (and-true (leb 1 w))
+keeps-some false w = sym (and-false (leb 1 w))
+
+-- from everyone to everyone an edge weighs what it does
 pub within_all : {g : Graph} → Closed g → (a b : List ℕ) → AllIn g.order a → AllIn g.order b
     → (e : ℕ) → e < g.size → (within g (group_of a) (group_of b)).weight e ≡ g.weight e
 within_all {g} c a b p q e h = rw (eq-eqb _ 1 (p (g.source e) (c.source-below e h)), eq-eqb _ 1 (q (g.target e) (c.target_below e h)))

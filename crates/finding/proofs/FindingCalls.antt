@@ -35,21 +35,21 @@ finding-refused {f} {a} {b} {s} {t} {w} {q = q} answer i h e k =
     }
 
 -- an accepted one writes what is found among the links from A to B, which is what is found inside A and B
-pub finding-done : {f a b s s' t t' w w₁ w₂ : List ℕ} {n m : ℕ} {r : Ring} → core_refusal f a b (length s) (length t) (length w) ≡ None
-    → Entered f a b (length s) (length t) w w₁ n m → FoundIn n m w₁ w₂ s s' t t' r → FindingCall f a b s s' t t' w w₂ (Ok r)
-finding-done {f} {a} {b} {r = r} e d i =
+pub finding-done : {f a b s s' t t' w w₁ w₂ d : List ℕ} {n m : ℕ} {r : Ring} → core_refusal f a b (length s) (length t) (length w) ≡ None
+    → Entered f a b (length s) (length t) w w₁ d n m → FoundIn n m w₁ w₂ s s' t t' r → FindingCall f a b s s' t t' w w₂ (Ok r)
+finding-done {f} {a} {b} {r = r} e l i =
     let g = graph_of f in
     let h = within g (group_of a) (group_of b) in
-    let k = d.accepted.sound.closed in
-    let found = outcome-within k (group_of a) (group_of b) (i.outcome h d.tabled) in
+    let k = l.accepted.sound.closed in
+    let found = outcome-within k (group_of a) (group_of b) (i.outcome h l.tabled) in
     let (p, q) = outcome-inside found in
     record {
       call = call.accepted r e refl (record {
         outcome = among g a b (λ A B p q. outcome-groups k p q found);
-        equal = among g a b (λ A B p q. equal-level-groups p q (equal-level-within k (group_of a) (group_of b) (i.equal h d.tabled)));
+        equal = among g a b (λ A B p q. equal-level-groups p q (equal-level-within k (group_of a) (group_of b) (i.equal h l.tabled)));
         bounds = among g a b (λ A B p q. bounds-groups p q (outcome-bounds k found));
         linkless = outcome-product k found;
-        groups = entered-groups d i.kept i.sources i.targets (i.counted h d.tabled ∙ totals-same (edges-inside k (group_of a) (group_of b) p q) refl refl);
+        groups = entered-groups l i.kept i.sources i.targets (i.counted h l.tabled ∙ totals-same (edges-inside k (group_of a) (group_of b) p q) refl refl);
       });
-      answered = λ h l. (r, refl);
+      answered = λ h required. (r, refl);
     }

@@ -3,6 +3,7 @@ ghost use Rattle.finding.specs.Findings.{FindingCall};
 
 use cores::enter;
 use network::Refusal;
+use peeling::MOST_PLACES;
 use searching::{Ring, find_in};
 
 // 01: the finding inside A and B. Its x and y are at least 1, or its groups are empty: it lies inside A and B as it is found.
@@ -16,6 +17,7 @@ pub fn finding(
 ) -> Result<Ring, Refusal>
     ensures { FindingCall file.now a.now b.now s.old s.new t.old t.new work.old work.new result }
 {
-    let extent = enter(file, a, b, None, s.len(), t.len(), work)?;
-    Ok(find_in(work, extent, s, t))
+    let mut degrees = [0u16; MOST_PLACES];
+    let extent = enter(file, a, b, None, s.len(), t.len(), work, &mut degrees)?;
+    Ok(find_in(work, &degrees, extent, s, t))
 }

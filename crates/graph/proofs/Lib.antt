@@ -28,6 +28,7 @@ pub mod Links
 pub mod Listed
 pub mod Monotone
 pub mod Cover
+pub mod Light
 pub mod Stars
 pub mod Starts
 pub mod Ascending

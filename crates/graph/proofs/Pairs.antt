@@ -1,5 +1,5 @@
--- Vertices two by two. What is counted between two groups is counted between their vertices; where each edge weighs 1 and none stands twice, that is 1
--- where one goes from the one to the other, and else 0. So a graph that has the links of another between two groups counts no less there.
+-- Vertices two by two. What is counted between two groups is counted between their vertices; where none stands twice, that is no more than one edge
+-- weighs, and where each weighs 1 it is 1 where one goes from the one to the other, and else 0. So a graph that has the links of another between two groups counts no less there.
 use Prim.Native.Nat.{ℕ, ◌<◌, ◌≤◌}
 use mathlib.Core.Bool.{true, ◌&&◌}
 use mathlib.Core.Path.{◌≡◌, refl, ◌∙◌}
@@ -43,16 +43,16 @@ linked-pair g w a b (e, l, s, t) = omega (arith, term-le-sum (λ e. if (only a (
     here : if (only a (g.source e) && only b (g.target e)) (g.weight e) ≡ g.weight e
     here = rw (eq-eqb _ a s, eq-eqb _ b t) refl
 
--- and no more than 1
-pub pair-one : (g : Graph) → Simple g → Single g → (a b : ℕ) → edges g (only a) (only b) ≤ 1
-pair-one g s w a b =
+-- and no more than one edge weighs
+pub pair-most : (g : Graph) (c : ℕ) → Simple g → ((e : ℕ) → e < g.size → g.weight e ≤ c) → (a b : ℕ) → edges g (only a) (only b) ≤ c
+pair-most g c s w a b =
     elim (dec_le 1 (edges g (only a) (only b))) [
-      | yes p ↦ let (e, l, i, j) = pair-linked g a b p in omega (arith, sum_mono g.size (same e l i j), sum-pick (λ d. 1) g.size e l)
+      | yes p ↦ let (e, l, i, j) = pair-linked g a b p in omega (arith, sum_mono g.size (same e l i j), sum-pick (λ d. c) g.size e l)
       | no p ↦ omega arith
     ]
   where
     same : (e : ℕ) → e < g.size → g.source e ≡ a → g.target e ≡ b → (d : ℕ) → d < g.size
-        → if (only a (g.source d) && only b (g.target d)) (g.weight d) ≤ if (eqb e d) 1
+        → if (only a (g.source d) && only b (g.target d)) (g.weight d) ≤ if (eqb e d) c
     same e l i j d m = grind (arith, nat_tests)
 
 -- so a graph that has the links of another between two groups counts no less there
@@ -63,7 +63,7 @@ linked-le {g} {h} p w q w' n S T has = pairs-le p.closed q.closed n S T each
     each : (a b : ℕ) → S a ≡ true → T b ≡ true → edges g (only a) (only b) ≤ edges h (only a) (only b)
     each a b s t =
         elim (dec_le 1 (edges g (only a) (only b))) [
-          | yes i ↦ omega (arith, pair-one g p.simple w a b, linked-pair h w' a b (has a b s t (pair-linked g a b i)))
+          | yes i ↦ omega (arith, pair-most g 1 p.simple (λ e l. omega (arith, w e l)) a b, linked-pair h w' a b (has a b s t (pair-linked g a b i)))
           | no i ↦ omega arith
         ]
 

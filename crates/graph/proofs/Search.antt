@@ -72,17 +72,6 @@ level_before q l y' p n = row_before q (l.above _ p n)
 pub level-across-before : {g : Graph} {x y : ℕ} → 1 ≤ y → LevelAcross g y x → (x' : ℕ) → 1 ≤ x' → Nonempty g x' y → Before x y x' y
 level-across-before q l x' p n = column-before q (l.above _ p n)
 
--- a climb of y that begins at s, below which nothing comes before the best: where s is empty, the best comes before the whole row,
--- since a core for a greater y would make the one for s non-empty
-pub pruned-row : {g : Graph} → Closed g → {a b x : ℕ} (s : ℕ) → ((y' : ℕ) → y' < s → Before a b x y') → ¬ Nonempty g x s
-    → (y' : ℕ) → 1 ≤ y' → Nonempty g x y' → Before a b x y'
-pruned-row {g} k {a} {b} {x} s low none y' p n = elim (dec_le s y') [ yes l ↦ absurd (none (nonempty-nested k (le_refl x) l n)) | no l ↦ low y' (omega arith) ]
-
--- the same for a climb of x
-pub pruned-column : {g : Graph} → Closed g → {a b y : ℕ} (s : ℕ) → ((x' : ℕ) → x' < s → Before a b x' y) → ¬ Nonempty g s y
-    → (x' : ℕ) → 1 ≤ x' → Nonempty g x' y → Before a b x' y
-pruned-column {g} k {a} {b} {y} s low none x' p n = elim (dec_le s x') [ yes l ↦ absurd (none (nonempty-nested k l (le_refl y) n)) | no l ↦ low x' (omega arith) ]
-
 -- the factors of a product that is not 0
 pub factors : (x y : ℕ) → 1 ≤ x * y → (1 ≤ x) × (1 ≤ y)
 factors x y h = grind (arith, nat_tests)

@@ -17,7 +17,7 @@ use Rattle.graph.specs.Adding.{Plain, Added, Raised}
 use Rattle.graph.proofs.Tests.{and_right}
 use Rattle.graph.proofs.Degrees.{closed-reverse, only, without, edges-mono, edges-without, inside-without, without-inside}
 use Rattle.graph.proofs.Exists.{dense-reverse, dense-other, nonempty-in, nonempty-nested, nonempty-reverse}
-use Rattle.graph.proofs.Pairs.{pair-one, linked-le}
+use Rattle.graph.proofs.Pairs.{pair-most, linked-le}
 
 -- Where a property is raised, the greatest number that has it rises by 0 or 1
 greatest-rises : {P Q : ℕ → Type 0} {k k' : ℕ} → Raised P Q → Greatest P k → Greatest Q k' → Rises k k'
@@ -75,7 +75,7 @@ module _ {g h : Graph} {u v : ℕ} (o : Added g h u v) where
   one-less S t =
       let rest = no-more (without S u) (only t) (rw (eq-eqb u u refl) refl) in
       elim (Bool-discrete (S u) true) [
-        | yes s ↦ omega (arith, rest, edges-without o.second.closed S (only t) u source s, pair-one h o.second.simple o.second_single u t)
+        | yes s ↦ omega (arith, rest, edges-without o.second.closed S (only t) u source s, pair-most h 1 o.second.simple (λ e l. omega (arith, o.second_single e l)) u t)
         | no s ↦ omega (arith, rest, edges-mono o.second.closed {T = only t} {T' = only t} (inside-without h {R = S} {S = S} u (λ w l i. i) s) (λ w l i. i))
       ]
 

@@ -3,7 +3,7 @@ use Rattle.std.specs.Prelude.{ℕ, ◌<◌, Bool, true, ◌&&◌, ◌↔◌, ◌
 use Rattle.graph.specs.Range.{sum, if}
 
 -- n vertices (01: members) and m edges (01: links): edge e goes from source e (01: voucher) to target e (01: vouched).
--- Each link of a network has weight 1; an edge of weight 0 counts as absent.
+-- Each link of a network weighs 1 to 12, by its kind (02, wish 13); an edge of weight 0 counts as absent.
 pub record Graph : Type 0 where
   pub order : ℕ
   pub size : ℕ
@@ -35,14 +35,14 @@ everyone u = true
 abbrev pub card : Graph → Group → ℕ
 card g S = sum (λ u. if (S u) 1) g.order
 
--- 01: E(S,T)
+-- 01: E(S,T); 02, wish 13: the sum of the weights
 abbrev pub edges : Graph → Group → Group → ℕ
 edges g S T = sum (λ e. if (S (g.source e) && T (g.target e)) (g.weight e)) g.size
 
--- 01: the links of u into T
+-- 01: the links of u into T; 02, wish 13: the sum of their weights, and so in what follows
 abbrev pub out_degree : Graph → Group → ℕ → ℕ
 out_degree g T u = sum (λ e. if (eqb (g.source e) u && T (g.target e)) (g.weight e)) g.size
 
--- 01: the links of v from S
+-- 01: the links of v from S, in the same way
 abbrev pub in_degree : Graph → Group → ℕ → ℕ
 in_degree g S v = sum (λ e. if (S (g.source e) && eqb (g.target e) v) (g.weight e)) g.size

@@ -9,7 +9,7 @@ use Rattle.graph.specs.Places.{targets, links_to}
 unfoldable pub unbeaten : (ℕ → ℕ → Bool) → Group → ℕ → ℕ
 unbeaten beats R n = first (λ p. R p && eqb (sum (λ q. if (R q && beats q p) 1) n) 0) n
 
--- 02: place q has fewer links to places of R than place p
+-- 02: place q has fewer links to places of R than place p; by wish 13 this is, here and below, by the weights of links
 abbrev pub fewer : Graph → Group → ℕ → ℕ → Bool
 fewer g R q p = ltb (links_to g R q) (links_to g R p)
 

@@ -22,12 +22,12 @@ still_in g L l = keep g (λ e. is_in l (L e))
 abbrev pub joins : Graph → Group → Group → ℕ → Bool
 joins g S T e = leb 1 (g.weight e) && (S (g.source e) && T (g.target e))
 
--- 02: E of layer l, its links
+-- 02: E of layer l: the weights of its links (wish 13)
 abbrev pub edges_in : Graph → (ℕ → ℕ) → ℕ → ℕ
 edges_in g L l = sum (λ e. if (eqb (L e) l) (g.weight e)) g.size
 
--- Layer l: x, y, S and T are the finding inside A and B of the links still in at its start. It has exactly those of them from S to T, which are
--- E(S,T), and condition 3 holds over the links still in.
+-- Layer l: x, y, S and T are the finding inside A and B of the links still in at its start. It has exactly those of them from S to T, which
+-- weigh E(S,T), and condition 3 holds over the links still in.
 pub record LayerInside (g : Graph) (A B : Group) (L : ℕ → ℕ) (l : ℕ) : Type 0 where
   pub x : ℕ
   pub y : ℕ

@@ -8,4 +8,11 @@ Lists g l = (i : ℕ) → i < length l → get_or l i 0 < g.size
 
 -- the edges of the list, in its order
 abbrev pub listed : Graph → List ℕ → Graph
-listed g l = record { order = g.order; size = length l; source = λ i. g.source (get_or l i 0); target = λ i. g.target (get_or l i 0); weight = λ i. 1 }
+listed g l =
+    record {
+      order = g.order;
+      size = length l;
+      source = λ i. g.source (get_or l i 0);
+      target = λ i. g.target (get_or l i 0);
+      weight = λ i. g.weight (get_or l i 0);
+    }

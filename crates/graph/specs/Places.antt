@@ -7,6 +7,6 @@ use Rattle.graph.specs.Graph.{Graph, Group, out_degree, in_degree}
 abbrev pub targets : Graph → Group → Group
 targets g R v = R (g.order + v)
 
--- the links of place p to places of R: as a source into the targets of R, as a target from its sources
+-- the links of place p to places of R, by their weights: as a source into the targets of R, as a target from its sources
 unfoldable pub links_to : Graph → Group → ℕ → ℕ
 links_to g R p = cond (ltb p g.order) (out_degree g (targets g R) p) (in_degree g R (p - g.order))

@@ -16,7 +16,7 @@ Simple g = (d e : ℕ) → d < g.size → e < g.size → g.source d ≡ g.source
 abbrev pub Single : Graph → Type 0
 Single g = (e : ℕ) → e < g.size → g.weight e ≡ 1
 
--- the weights of all edges together: of a network, the number of its links
+-- the weights of all edges together (02, wish 13); where each weighs 1, the number of links
 abbrev pub total : Graph → ℕ
 total g = sum g.weight g.size
 

@@ -1,7 +1,7 @@
 // The core of a work table: both groups written, and their numbers.
 ghost use Rattle.std.specs.Prelude.{false, ◌++◌, ◌≡◌, ◌+◌, ◌≤◌, length, drop};
 ghost use Rattle.network.specs.Groups.{bytes_of};
-ghost use Rattle.peeling.specs.Peeling.{Held};
+ghost use Rattle.peeling.specs.Peeling.{Weighed};
 ghost use Rattle.grouping.specs.Groups.{nobody, at_least, CoreIn};
 
 use network::Totals;
@@ -45,14 +45,20 @@ fn is_free(scope: Scope) -> bool
 // 01: the core, of every graph whose rows the table holds. Where both sides need an edge, it is empty as soon as a side is; else the queue is
 // drained, since the groups are read off the degrees. The groups are two parameters, as 01 names them: a struct of two lent tables would be made for
 // this one call.
-pub fn core_in(work: &mut [u16], scope: Scope, s: &mut [u8], t: &mut [u8]) -> Totals
-    requires held { Held scope.extent.order scope.extent.size work.old }
+pub fn core_in(
+    work: &mut [u16],
+    degrees: &[u16],
+    scope: Scope,
+    s: &mut [u8],
+    t: &mut [u8],
+) -> Totals
+    requires weighed { Weighed scope.extent.order scope.extent.size work.old degrees.now }
     requires room { (scope.extent.order ≤ length s.old) × (scope.extent.order ≤ length t.old) }
     ensures { CoreIn scope work.old work.new s.old s.new t.old t.new result }
 {
     let n = scope.extent.order;
     let drain = is_free(scope);
-    let peel = whole(work, scope, drain);
+    let peel = whole(work, degrees, scope, drain);
     if peel.is_cut(drain) {
         return clear_groups(n, s, t);
     }

@@ -1,26 +1,28 @@
 -- How the answers of the harmonic call are told. With everyone as A and B the work table holds every link of the file, so that what is found in it is
 -- found in the file.
-use Prim.Native.Nat.{ℕ}
+use Prim.Native.Nat.{ℕ, ◌≤◌}
 use mathlib.Core.List.{List, [], ◌∷◌}
 use mathlib.Core.Path.{◌≡◌, refl, ap, ◌∙◌}
 use native.Mathlib.Omega.{arith}
 use lib.ListN.{length}
+use Rattle.graph.specs.Range.{sum}
 use Rattle.graph.specs.Graph.{Graph, everyone, edges}
 use Rattle.graph.specs.Shapes.{Closed}
 use Rattle.graph.specs.Within.{within}
 use Rattle.graph.specs.Harmonic.{Harmonic}
-use Rattle.graph.proofs.Sums.{sum_ones}
+use Rattle.graph.proofs.Sums.{sum-empty, term-le-sum}
 use Rattle.graph.proofs.Degrees.{edges-everyone}
 use Rattle.graph.proofs.Harmonic.{harmonic-bound, harmonic-some, harmonic-none}
 use Rattle.std.specs.Prelude.{None, Some, Result, Ok, IsErr, IfErr}
 use Rattle.network.specs.declared.Refusal.{Refusal}
 use Rattle.network.specs.declared.Totals.{Totals}
-use Rattle.network.specs.File.{graph_of}
+use Rattle.network.specs.File.{graph_of, kind_at}
 use Rattle.network.specs.Groups.{group_of, totals}
 use Rattle.network.specs.Refusals.{harmonic_refusal}
 use Rattle.network.specs.Calls as call
 use Rattle.network.proofs.Groups.{totals-same}
 use Rattle.network.proofs.Answers.{call-handed}
+use Rattle.network.proofs.Versions.{weight-range}
 use Rattle.peeling.specs.Peeling.{Tabled}
 use Rattle.filling.proofs.Times.{within_all}
 use Rattle.filling.proofs.Lists.{tabled-as}
@@ -36,15 +38,15 @@ pub harmonic-refused : {f s t w w' : List ℕ} {q : Refusal} (answer : Result To
 harmonic-refused {s = s} {t = t} answer i h e k = call-handed answer i h e (ap (λ w. s ∷ t ∷ w ∷ []) k)
 
 -- an accepted one writes what is found in the file
-pub harmonic-done : {f s s' t t' w w₁ w₂ : List ℕ} {n m : ℕ} {r : Totals} → harmonic_refusal f (length s) (length t) (length w) ≡ None
-    → Entered f ones ones (length s) (length t) w w₁ n m → HarmonicIn n m w₁ w₂ s s' t t' r → HarmonicCall f s s' t t' w w₂ (Ok r)
+pub harmonic-done : {f s s' t t' w w₁ w₂ v : List ℕ} {n m : ℕ} {r : Totals} → harmonic_refusal f (length s) (length t) (length w) ≡ None
+    → Entered f ones ones (length s) (length t) w w₁ v n m → HarmonicIn n m w₁ w₂ s s' t t' r → HarmonicCall f s s' t t' w w₂ (Ok r)
 harmonic-done {f} {s' = s'} {t' = t'} {w₁ = w₁} {n = n} {m = m} {r = r} e d i =
     call.accepted r e refl (record {
       found = found;
       bound = harmonic-bound k found;
       groups = entered-groups d i.kept i.sources i.targets counted;
-      linkless = λ z. let (p, q) = harmonic-none found (omega (arith, whole)) in counted ∙ totals-same (omega (arith, whole, edges-everyone k (group_of s') (group_of t'))) p q;
-      linked = λ l. rw counted (harmonic-some k found (omega (arith, whole)));
+      linkless = λ z. let (p, q) = harmonic-none found (none z) in counted ∙ totals-same (omega (arith, none z, edges-everyone k (group_of s') (group_of t'))) p q;
+      linked = λ l. rw counted (harmonic-some k found (some l));
     })
   where
     g : Graph
@@ -64,5 +66,10 @@ harmonic-done {f} {s' = s'} {t' = t'} {w₁ = w₁} {n = n} {m = m} {r = r} e d 
     counted : r ≡ totals g (group_of s') (group_of t')
     counted = i.counted g tabled
 
-    whole : edges g everyone everyone ≡ g.size
-    whole = sum_ones g.size
+    -- without edges E is 0,
+    none : g.size ≡ 0 → edges g everyone everyone ≡ 0
+    none z = ap (sum g.weight) z ∙ sum-empty g.weight
+
+    -- and with one it is not, since each weighs at least 1
+    some : 1 ≤ g.size → 1 ≤ edges g everyone everyone
+    some l = omega (arith, term-le-sum g.weight g.size 0 l, (weight-range (kind_at f 0)).0)

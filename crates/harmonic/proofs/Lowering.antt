@@ -1,5 +1,5 @@
--- A place is dropped: it is marked, and then, with each entry of its row that is passed, from the last to the first, the entry's place loses an edge if
--- it is left. After the whole row each place that is left has lost its edges to the place dropped.
+-- A place is dropped: it is marked, and then, with each entry of its row that is passed, from the last to the first, the entry's place loses the
+-- entry's weight if it is left. After the whole row each place that is left has lost its edges to the place dropped.
 use Prim.Native.Nat.{ℕ, ◌+◌, ◌-◌, ◌*◌, ◌<◌, ◌≤◌}
 use mathlib.Core.Bool.{Bool, true, false}
 use mathlib.Core.List.{List}
@@ -13,10 +13,12 @@ use lib.ListN.{length, get_or, set}
 use Rattle.graph.specs.Range.{sum, if}
 use Rattle.graph.specs.Drops.{first_mark}
 use Rattle.graph.proofs.Tests.{if-same, if-zero}
-use Rattle.peeling.specs.Peeling.{start_of, row_entry, degree_of, entries, between, Rows}
+use Rattle.graph.proofs.Sums.{term-le-sum}
+use Rattle.peeling.specs.Peeling.{start_of, row_length, row_entry, place_in, weight_in, row_place, row_weight, degree_of, entries, between, Rows}
 use Rattle.peeling.proofs.Kept.{kept_same, kept_next, rows-kept, between-kept}
 use Rattle.peeling.proofs.Along.{Along, along-ends, along-entry, along-at, along-inside}
 use Rattle.peeling.proofs.Losses.{entries-suc, entries-part}
+use Rattle.peeling.proofs.Singles.{row-degree}
 use Rattle.picking.specs.Winners.{Beside}
 use Rattle.harmonic.specs.Walks.{keys_at, Picks, Loses, Dropped, Spare}
 use Rattle.harmonic.proofs.Tables.{Rekeyed, rekeyed}
@@ -99,27 +101,46 @@ module _ {n m : ℕ} {v : List ℕ} {place : ℕ} (r : Rows n m v) (i : place < 
       pub lower-inside : k - 1 < length w
       lower-inside = omega (arith, along-inside r i back before, g.loses.kept.same_length, r.long)
 
-      module _ {q : ℕ} (e : q ≡ get_or w (k - 1) 0) where
+      module _ {e q c : ℕ} (x : e ≡ get_or w (k - 1) 0) (y : q ≡ place_in e) (z : c ≡ weight_in e) where
+        -- which the row has
+        is-entry : e ≡ row_entry n v (start_of v place + (k - 1 - start))
+        is-entry = x ∙ g.loses.kept.index (k - 1) (along-inside r i back before) ∙ ap (λ j. get_or v j 0) (along-at r i back before)
+
         -- its place is named by the row
-        is-entry : q ≡ row_entry n v (start_of v place + (k - 1 - start))
-        is-entry = e ∙ g.loses.kept.index (k - 1) (along-inside r i back before) ∙ ap (λ j. get_or v j 0) (along-at r i back before)
+        is-place : q ≡ row_place n v (start_of v place + (k - 1 - start))
+        is-place = y ∙ ap place_in is-entry
+
+        -- and its weight is that of the row
+        is-weight : c ≡ row_weight n v (start_of v place + (k - 1 - start))
+        is-weight = z ∙ ap weight_in is-entry
 
         -- it is a place
         pub lower-place : q < 2 * n
-        lower-place = rw is-entry (r.inside place (k - 1 - start) i (along-entry r i back before))
+        lower-place = rw is-place (r.inside place (k - 1 - start) i (along-entry r i back before))
+
+        -- its weight is below every mark
+        lower-light : c < first_mark
+        lower-light =
+            omega (
+              arith,
+              is-weight,
+              r.light place i,
+              row-degree r place i,
+              term-le-sum (λ j. row_weight n v (start_of v place + j)) (row_length v place) (k - 1 - start) (along-entry r i back before),
+            )
 
         -- the entries up to it are those before it and this one
-        one_more : (p : ℕ) → entries n v place (k - start) p ≡ entries n v place (k - 1 - start) p + if (eqb q p) 1
+        one_more : (p : ℕ) → entries n v place (k - start) p ≡ entries n v place (k - 1 - start) p + if (eqb q p) c
         one_more p =
-            let c : k - start ≡ k - 1 - start + 1 = omega arith in
-            rw (c, is-entry) (entries-suc n v place (k - 1 - start) p)
+            let j : k - start ≡ k - 1 - start + 1 = omega arith in
+            rw (j, is-place, is-weight) (entries-suc n v place (k - 1 - start) p)
 
-        -- and they are no more than all
+        -- and they weigh no more than all
         no_more : (p : ℕ) → entries n v place (k - start) p ≤ between n v place p
         no_more p = entries-part n v place (k - start) p (omega (arith, along-entry r i back before))
 
-        -- so it has an edge to lose
-        pub lower-some : Spare n m v place q → 1 ≤ degree_of n m w q
+        -- so it has an edge of that weight to lose
+        pub lower-some : Spare n m v place q → c ≤ degree_of n m w q
         lower-some spare =
             elim (dec_lt (degree_of n m v q) first_mark) [
               | yes h ↦ omega (
@@ -128,19 +149,19 @@ module _ {n m : ℕ} {v : List ℕ} {place : ℕ} (r : Rows n m v) (i : place < 
                 lost (beyond n v place (k - start)) g.loses q lower-place h,
                 one_more q,
                 no_more q,
-                if-same q q 1 refl,
+                if-same q q c refl,
               )
-              | no h ↦ omega (arith, marked-stays (beyond n v place (k - start)) g.loses q lower-place (omega arith))
+              | no h ↦ omega (arith, lower-light, marked-stays (beyond n v place (k - start)) g.loses q lower-place (omega arith))
             ]
 
         -- with that edge lost one entry more is passed
-        pub lower-next : {w' : List ℕ} → Loses n m (λ p. if (eqb q p) 1) w w' → Lowering n m v place start end w' (k - 1)
+        pub lower-next : {w' : List ℕ} → Loses n m (λ p. if (eqb q p) c) w w' → Lowering n m v place start end w' (k - 1)
         lower-next b =
             record {
               along = back;
               loses =
-                  loses-ext (λ p. beyond n v place (k - start) p + if (eqb q p) 1) (beyond n v place (k - 1 - start)) (λ p. omega (arith, one_more p, no_more p))
-                  (loses-next (beyond n v place (k - start)) (λ p. if (eqb q p) 1) g.loses b);
+                  loses-ext (λ p. beyond n v place (k - start) p + if (eqb q p) c) (beyond n v place (k - 1 - start)) (λ p. omega (arith, one_more p, no_more p))
+                  (loses-next (beyond n v place (k - start)) (λ p. if (eqb q p) c) g.loses b);
             }
 
 -- the place is marked by a store to its key, with other nodes

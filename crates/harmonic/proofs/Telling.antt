@@ -15,7 +15,6 @@ use Rattle.graph.proofs.Harmonic.{linked-order, places-linked, places-none}
 use Rattle.graph.proofs.Keys.{keys-begin, keys-end}
 use Rattle.network.specs.declared.Totals.{Totals}
 use Rattle.peeling.specs.declared.Peel.{Peel}
-use Rattle.network.specs.Small.{Small}
 use Rattle.peeling.specs.Peeling.{degree_of, live, Tabled, Held, Peeling, Kept}
 use Rattle.peeling.proofs.Kept.{kept_next, kept_back, tabled-kept}
 use Rattle.peeling.proofs.Totals.{place-degree}
@@ -43,8 +42,8 @@ module _ {n m : ℕ} {u u' : List ℕ} {s : Peel} (p : Peeling n m (need n 0 0) 
       omega (arith, linked-order t.closed (omega (arith, whole-links x.graph t)), t.order)
 
   -- without edges nothing is dropped, and nobody found
-  pub tells_none : Small n m → s.edges ≡ 0 → BestIn n m u u' (record { edges = 0; sources = 0; targets = 0 })
-  tells_none small z = record { kept = k; tells = tells }
+  pub tells_none : s.edges ≡ 0 → BestIn n m u u' (record { edges = 0; sources = 0; targets = 0 })
+  tells_none z = record { kept = k; tells = tells }
     where
       tells : (g : Graph) → Tabled g n m u → Tells g n m u' (record { edges = 0; sources = 0; targets = 0 })
       tells g t =
@@ -52,7 +51,7 @@ module _ {n m : ℕ} {u u' : List ℕ} {s : Peel} (p : Peeling n m (need n 0 0) 
           record {
             places = λ q l.
                 rw (places-none g e)
-                (sym (lt-leb (first_mark + (2 * n - 0)) (degree_of n m u' q) (omega (arith, whole-degrees g t q l, light small t everyone q (omega (arith, t.order))))));
+                (sym (lt-leb (first_mark + (2 * n - 0)) (degree_of n m u' q) (omega (arith, whole-degrees g t q l, light t everyone q (omega (arith, t.order))))));
             counted = rw (places-none g e, sum-zero g.size, sum-zero g.order);
           }
 

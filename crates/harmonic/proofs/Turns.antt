@@ -23,30 +23,21 @@ use Rattle.graph.proofs.Keys.{keys-test, keys-pick, keys-next, keys-end, drop-ke
 use Rattle.network.specs.declared.Side.{Side}
 use Rattle.network.specs.declared.Side.TheVariants.{Source, Target}
 use Rattle.network.specs.declared.Totals.{Totals}
-use Rattle.network.specs.Small.{Small}
-use Rattle.peeling.specs.Peeling.{row_length, degree_of, between, live, Tabled}
-use Rattle.peeling.proofs.Tables.{start-last}
-use Rattle.peeling.proofs.Whole.{row-degree}
+use Rattle.peeling.specs.Peeling.{degree_of, between, Tabled}
 use Rattle.peeling.proofs.Kept.{tabled-kept}
 use Rattle.peeling.proofs.Totals.{tabled-rows, place-degree}
 use Rattle.harmonic.specs.declared.Place.{Place}
 use Rattle.harmonic.specs.Walks.{number_on, number_of, Next, Spare, Dropped, without, has_place, totals_after, At}
 
--- the degrees of a whole graph are the lengths of the rows
-pub whole-degree : {g : Graph} {n m : ℕ} {w : List ℕ} → Tabled g n m w → (p : ℕ) → p < 2 * n → degree_in g everyone p ≡ row_length w p
-unfolding live
-whole-degree t p l = sym (place-degree t everyone p l) ∙ row-degree (tabled-rows t) (λ q. q) p l
-
--- so none is too great
-pub light : {g : Graph} {n m : ℕ} {w : List ℕ} → Small n m → Tabled g n m w → Light g
-light {g} {n} s t R p l =
+-- no degree is as great as a mark, since none of the whole graph is
+pub light : {g : Graph} {n m : ℕ} {w : List ℕ} → Tabled g n m w → Light g
+light {g} {n} t R p l =
     let b : p < 2 * n = omega (arith, t.order) in
     omega (
       arith,
-      s.size,
       degree-mono (joined g) {N = 2 * g.order} {Q = R} {R = everyone} (λ q h e. refl) p,
-      whole-degree t p b,
-      start-last (tabled-rows t) (p + 1) (omega arith),
+      place-degree t everyone p b,
+      (tabled-rows t).light p b,
     )
 
 -- three numbers that are the same are the same totals
@@ -56,7 +47,7 @@ totals-by p q r = rw (p, q, r)
 
 -- E, |S| and |T| when a place is dropped
 module _ {g : Graph} (k : Closed g) (i : ℕ) (l : i < 2 * g.order) where
-  -- E falls by its links
+  -- E falls by its degree
   links-fall : links_after g i - degree_in g (state_after g i) (drop_at g i) ≡ links_after g (suc i)
   links-fall = omega (arith, links-next k i l)
 
@@ -80,7 +71,7 @@ pub at_size : {g : Graph} {n m : ℕ} {w : List ℕ} {i : ℕ} {c : Totals} → 
 at_size {g} {n} {i = i} {c = c} a =
     rw a.counted (omega (arith, size-next a.tabled.closed i (omega (arith, a.within, a.tabled.order)), a.tabled.order))
 
-module _ {g : Graph} {n m : ℕ} {w : List ℕ} {i : ℕ} {c : Totals} (s : Small n m) (a : At g n m w i c) where
+module _ {g : Graph} {n m : ℕ} {w : List ℕ} {i : ℕ} {c : Totals} (a : At g n m w i c) where
   -- where each place is dropped all drops are done
   pub all-dropped : ((p : ℕ) → p < 2 * n → first_mark ≤ degree_of n m w p) → i ≡ 2 * n
   all-dropped h =
@@ -92,8 +83,8 @@ module _ {g : Graph} {n m : ℕ} {w : List ℕ} {i : ℕ} {c : Totals} (s : Smal
             absurd (omega (
               arith,
               h (drop_at g i) (omega (arith, d.below, a.tabled.order)),
-              drop-key a.tabled.closed (light s a.tabled) a.keys l,
-              light s a.tabled (state_after g i) (drop_at g i) d.below,
+              drop-key a.tabled.closed (light a.tabled) a.keys l,
+              light a.tabled (state_after g i) (drop_at g i) d.below,
             ))
       ]
 
@@ -115,11 +106,11 @@ module _ {g : Graph} {n m : ℕ} {w : List ℕ} {i : ℕ} {c : Totals} (s : Smal
 
     -- the place with the smallest key is the one to drop
     pub turn-place : number ≡ drop_at g i
-    turn-place = keys-pick a.tabled.closed (light s a.tabled) a.keys turn-before number (rw a.tabled.order next.least)
+    turn-place = keys-pick a.tabled.closed (light a.tabled) a.keys turn-before number (rw a.tabled.order next.least)
 
     -- its key is its degree
     turn-key : degree_of n m w number ≡ degree_in g (state_after g i) (drop_at g i)
-    turn-key = rw turn-place (drop-key a.tabled.closed (light s a.tabled) a.keys turn-before)
+    turn-key = rw turn-place (drop-key a.tabled.closed (light a.tabled) a.keys turn-before)
 
     -- E, |S| and |T| follow
     turn-totals : has_place p.side c × (without p.side (degree_of n m w number) c ≡ totals_after g (suc i))
@@ -146,7 +137,7 @@ module _ {g : Graph} {n m : ℕ} {w : List ℕ} {i : ℕ} {c : Totals} (s : Smal
     pub turn-spare : (q : ℕ) → q < 2 * n → q ≢ number → Spare n m w number q
     turn-spare q h d k =
         let b : q < 2 * g.order = omega (arith, a.tabled.order) in
-        let t = keys-test a.tabled.closed (light s a.tabled) a.keys q b ∙ lt-ltb _ first_mark k in
+        let t = keys-test a.tabled.closed (light a.tabled) a.keys q b ∙ lt-ltb _ first_mark k in
         omega (arith, edges-to q h, a.keys.left q b t, degree-next a.tabled.closed i q turn-before)
 
     -- so when it is dropped the table is that after the drop
@@ -156,13 +147,13 @@ module _ {g : Graph} {n m : ℕ} {w : List ℕ} {i : ℕ} {c : Totals} (s : Smal
           tabled = tabled-kept a.tabled d.kept;
           within = omega (arith, turn-before, a.tabled.order);
           keys =
-              keys-next a.tabled.closed (light s a.tabled) a.keys turn-before (degree_of n m w')
+              keys-next a.tabled.closed (light a.tabled) a.keys turn-before (degree_of n m w')
               (rw (← turn-place) d.marked) left gone;
           counted = turn-totals.1;
         }
       where
         test : (q : ℕ) → q < 2 * g.order → state_after g i q ≡ ltb (degree_of n m w q) first_mark
-        test = keys-test a.tabled.closed (light s a.tabled) a.keys
+        test = keys-test a.tabled.closed (light a.tabled) a.keys
 
         left : (q : ℕ) → q < 2 * g.order → q ≢ drop_at g i → state_after g i q ≡ true → degree_of n m w' q + joined g q (drop_at g i) ≡ degree_of n m w q
         left q b e t =

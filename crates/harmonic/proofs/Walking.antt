@@ -16,7 +16,6 @@ use Rattle.graph.specs.Drops.{first_mark}
 use Rattle.graph.proofs.Unbeaten.{unbeaten-start, unbeaten-keep, unbeaten-take}
 use Rattle.graph.proofs.Harmonic.{denser-ranks, size-next}
 use Rattle.network.specs.declared.Totals.{Totals}
-use Rattle.network.specs.Small.{Small}
 use Rattle.peeling.specs.Peeling.{degree_of, Tabled, Held, Kept}
 use Rattle.peeling.proofs.Kept.{kept_same, kept_next}
 use Rattle.harmonic.specs.Walks.{Picks, step_of, totals_after, better, At, Turned, Top, Walked}
@@ -132,12 +131,12 @@ module _ {n m : ℕ} {v w : List ℕ} {c best : Totals} (d : Going n m v w c bes
       omega (arith, at_size a, at_size (u.each d.held.graph a))
 
   -- and it ends when each place is dropped
-  pub going-ends : Small n m → 1 ≤ n → ((p : ℕ) → p < 2 * n → first_mark ≤ degree_of n m w p) → Walked n m v w best
-  going-ends s l h =
+  pub going-ends : 1 ≤ n → ((p : ℕ) → p < 2 * n → first_mark ≤ degree_of n m w p) → Walked n m v w best
+  going-ends l h =
       record {
         kept = d.kept;
-        keys = λ g t. rw (all-dropped s (d.at g t) h) at (d.at g t).keys;
+        keys = λ g t. rw (all-dropped (d.at g t) h) at (d.at g t).keys;
         top = λ g t.
-            let e : suc (step_of n c - 1) ≡ 2 * n = omega (arith, all-dropped s (d.at g t) h) in
+            let e : suc (step_of n c - 1) ≡ 2 * n = omega (arith, all-dropped (d.at g t) h) in
             rw e at (d.top g t);
       }

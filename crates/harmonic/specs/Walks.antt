@@ -46,7 +46,7 @@ abbrev pub Chosen : ℕ → ℕ → List ℕ → Choice → Type 0
 Chosen n m w (Drop p) = Next n m w p
 Chosen n m w Done = (p : ℕ) → p < 2 * n → first_mark ≤ degree_of n m w p
 
--- each place that is left loses so many edges, and the tree follows; one that was dropped keeps its mark
+-- each place that is left loses so much, and the tree follows; one that was dropped keeps its mark
 pub record Loses (n m : ℕ) (loss : ℕ → ℕ) (w w' : List ℕ) : Type 0 where
   pub tree : Picks n m w'
   pub kept : Kept n m w w'
@@ -64,7 +64,7 @@ pub record Dropped (n m place mark : ℕ) (w w' : List ℕ) : Type 0 where
   pub lowered : (q : ℕ) → q < 2 * n → q ≢ place → degree_of n m w q < first_mark → degree_of n m w' q + between n w place q ≡ degree_of n m w q
   pub others : (q : ℕ) → q < 2 * n → q ≢ place → first_mark ≤ degree_of n m w q → degree_of n m w' q ≡ degree_of n m w q
 
--- E, |S| and |T| without a place on a side that has d links
+-- E, |S| and |T| without a place on a side of degree d (02, wish 13: the weight of its links)
 abbrev pub without : Side → ℕ → Totals → Totals
 without Source d c = record { edges = c.edges - d; sources = c.sources - 1; targets = c.targets }
 without Target d c = record { edges = c.edges - d; sources = c.sources; targets = c.targets - 1 }

@@ -1,6 +1,6 @@
-// One drop: the place to drop is chosen by the tree of matches, it is marked, and the places of its row lose an edge.
+// One drop: the place to drop is chosen by the tree of matches, it is marked, and the places of its row lose their edges to it.
 // The lent table goes beside its extent, and what it holds is said at each call: a struct with both would have each call promise that it still holds
-// the same table. A place is what stands in a row, an entry that is read.
+// the same table. A place is what stands in a row, in an entry that is read.
 ghost use Rattle.std.specs.Prelude.{◌≡◌, ◌+◌, ◌≢◌, ℕ, ◌*◌, ◌<◌, ◌≤◌, eqb, length};
 ghost use Rattle.graph.specs.Range.{if};
 ghost use Rattle.graph.specs.Drops.{first_mark};
@@ -11,6 +11,7 @@ ghost use Rattle.harmonic.specs.Walks.{Picks, Chosen, Loses, Dropped, Spare};
 use crate::places::place_at;
 use crate::{Choice, FIRST_MARK};
 use network::Extent;
+use peeling::{place_in, weight_in};
 use picking::Bracket;
 
 // The tree of matches over the places: their keys are the degrees, which stand after the rows. No `From`: both types are of other crates.
@@ -38,22 +39,22 @@ pub fn choose(work: &[u16], extent: Extent) -> Choice
     }
 }
 
-// One edge less for a place, unless it was dropped.
-fn lower(work: &mut [u16], extent: Extent, place: usize)
+// An edge less for a place, by its weight, unless the place was dropped.
+fn lower(work: &mut [u16], extent: Extent, place: usize, weight: u16)
     requires long { work_length extent.order extent.size ≤ length work.old }
     requires tree { Picks extent.order extent.size work.old }
     requires is_place { place < 2 * extent.order }
-    requires has_edge { 1 ≤ degree_of extent.order extent.size work.old place }
-    ensures { Loses extent.order extent.size (λ q. if (eqb place q) 1) work.old work.new }
+    requires has_edge { weight ≤ degree_of extent.order extent.size work.old place }
+    ensures { Loses extent.order extent.size (λ q. if (eqb place q) weight) work.old work.new }
 {
     let bracket = bracket_of(extent);
     let key = work[bracket.at + place];
     if usize::from(key) < FIRST_MARK {
-        bracket.lower_key(work, place, key - 1);
+        bracket.lower_key(work, place, key - weight);
     }
 }
 
-// One edge less for each place of a row that is left. The rows stand from the last link of the file to the first; passed from the end on, the places
+// Of each place of a row that is left its edge less. The rows stand from the last link of the file to the first; passed from the end on, the places
 // of an ascending file come in their order, and of those that tie only the first comes far in the tree. The row stands in the table that is
 // written to, so its entries are read by their index.
 fn lower_row(work: &mut [u16], extent: Extent, place: usize)
@@ -67,8 +68,9 @@ fn lower_row(work: &mut [u16], extent: Extent, place: usize)
     let start = rows + usize::from(work[place]);
     let end = rows + usize::from(work[place + 1]);
     for k in (start..end).rev() {
-        let other = usize::from(work[k]);
-        lower(work, extent, other);
+        let entry = work[k];
+        let weight = weight_in(entry);
+        lower(work, extent, place_in(entry), weight);
     }
 }
 

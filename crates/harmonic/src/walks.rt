@@ -1,7 +1,7 @@
 // All drops, one after the other, and the best state met. The table goes beside its extent, as in `drops`.
 ghost use Rattle.std.specs.Prelude.{◌≡◌, ◌+◌, ◌*◌, ◌≤◌};
 ghost use Rattle.graph.specs.Graph.{Graph};
-ghost use Rattle.peeling.specs.Peeling.{Held, Tabled};
+ghost use Rattle.peeling.specs.Peeling.{Held, Weighed, Tabled};
 ghost use Rattle.harmonic.specs.Walks.{Picks, Next, At, Turned, Walked, BestIn, step_of, without, has_place, better};
 
 use crate::drops::{bracket_of, choose, drop_place};
@@ -10,7 +10,7 @@ use crate::{Choice, FIRST_MARK, Place};
 use network::{Extent, Side, Totals};
 use peeling::{Peel, Scope};
 
-// E, |S| and |T| without a place on a side that has so many links.
+// E, |S| and |T| without a place on a side that has such a degree.
 fn less(state: Totals, side: Side, degree: usize) -> Totals
     requires has_links { degree ≤ state.edges }
     requires has_place { has_place side state }
@@ -79,12 +79,13 @@ fn walk(work: &mut [u16], extent: Extent, whole: Totals) -> Totals
     best
 }
 
-// 02: E, |S| and |T| of the best state, or zeros where there are no links, and nothing is dropped.
-pub fn best_state(work: &mut [u16], extent: Extent) -> Totals
-    requires held { Held extent.order extent.size work.old }
+// 02: E, |S| and |T| of the best state, or zeros where there are no links, and nothing is dropped. The drops begin with the degrees of all places in
+// the whole graph.
+pub fn best_state(work: &mut [u16], degrees: &[u16], extent: Extent) -> Totals
+    requires weighed { Weighed extent.order extent.size work.old degrees.now }
     ensures { BestIn extent.order extent.size work.old work.new result }
 {
-    let peel = Peel::fresh(work, Scope::of(extent, 0, 0));
+    let peel = Peel::fresh(work, degrees, Scope::of(extent, 0, 0));
     if peel.edges == 0 {
         return Totals {
             edges: 0,

@@ -1,7 +1,8 @@
 -- The file of a list of links: it is accepted and holds the set that the list keeps.
 use Prim.Native.Nat.{ℕ, suc, ◌≤◌}
 use mathlib.Core.List.{List, ◌++◌}
-use mathlib.Core.Path.{◌≡◌}
+use mathlib.Core.Logic.{◌↔◌}
+use mathlib.Core.Path.{◌≡◌, refl, sym}
 use native.Mathlib.Omega.{arith}
 use lib.ListN.{length, take, drop}
 use lib.Seq.{length-take-le, sets}
@@ -9,14 +10,14 @@ use Rattle.graph.specs.Graph.{Graph}
 use Rattle.graph.specs.Shapes.{Closed}
 use Rattle.graph.specs.Order.{Ascending}
 use Rattle.graph.proofs.Stores.{length-past, drop_past}
-use Rattle.network.specs.File.{most_members, link_at}
+use Rattle.network.specs.File.{most_members, stride, link_at, LinkedAs}
 use Rattle.network.specs.Bytes.{standing}
-use Rattle.network.proofs.Held.{standing-written}
+use Rattle.network.proofs.Held.{Writable, standing-written}
 use Rattle.linkset.specs.Links.{Links}
 use Rattle.linkset.specs.Tables.{Pairs}
 use Rattle.journal.specs.Entries.{members}
 use Rattle.journal.specs.Journal.{after, numbers}
-use Rattle.journal.specs.Calls.{count_of, work_entries, SetWritten, JournalTold}
+use Rattle.journal.specs.Calls.{count_of, work_entries, In, SetWritten, JournalTold}
 use Rattle.journal.specs.Listed.{table_graph}
 use Rattle.journal.specs.Places.{Balanced}
 use Rattle.journal.specs.declared.Totals.{Totals}
@@ -41,11 +42,30 @@ module _ (n : ℕ) (S : Links) (w : Pairs) (t : Totals) (order-most : n ≤ most
   closed : Closed g
   closed = record { source-below = λ e k. (ends-below n S l h.keeps h.within e k).0; target_below = λ e k. (ends-below n S l h.keeps h.within e k).1 }
 
+  -- they can be written in version 1, all of kind 0
+  writable : Writable 1 (λ e. 0) g
+  writable =
+      record {
+        version-least = omega arith;
+        version-most = omega arith;
+        few = order-most;
+        most = omega (arith, all, h.live_is, b.fits);
+        closed = closed;
+        kinds = λ e l. omega arith;
+        plain = λ e l n. refl;
+      }
+
+  linked : (u v k : ℕ) → LinkedAs g (λ e. 0) u v k ↔ In S u v k
+  linked u v k = (
+    λ (e, m, p, q, r). ((h.keeps.linked u v).0 (e, m, p, q), sym r),
+    λ (s, r). let (e, m, p, q) = (h.keeps.linked u v).1 s in (e, m, p, q, sym r),
+  )
+
   -- it is the set that is written
-  pub set-written : (out out' : List ℕ) → link_at t.live ≤ length out → out' ≡ sets out 0 (standing g) → SetWritten n S out out' t.live
+  pub set-written : (out out' : List ℕ) → link_at (stride 1) t.live ≤ length out → out' ≡ sets out 0 (standing 1 (λ e. 0) g) → SetWritten n S out out' t.live
   set-written out out' long e =
       record {
-        file = rw (← all) (standing-written order-most (omega (arith, all, h.live_is, b.fits)) closed ascending h.keeps.linked out (rw all long) e);
+        file = rw (← all) (standing-written writable ascending linked out (rw all long) e);
         live = h.live_is;
       }
 

@@ -14,9 +14,9 @@ use Rattle.journal.specs.Places.{Places}
 abbrev pub count_of : List ℕ → ℕ → ℕ
 count_of j asked = cond (ltb (entries j) asked) (entries j) asked
 
--- 02: the length of the output, 32,777 bytes: that of a file with the most links
+-- 02: the length of the output, 32,777 bytes: that of a file of version 1, of four bytes a link, with the most links
 abbrev pub out_length : ℕ
-out_length = link_at most_links
+out_length = link_at 4 most_links
 
 -- 02: the length of the work table: the links present and four named states, each with the most links, two entries a link
 abbrev pub work_entries : ℕ
@@ -26,13 +26,13 @@ work_entries = 81920
 unfoldable pub journal_refusal : List ℕ → ℕ → ℕ → ℕ → ℕ → Option Refusal
 journal_refusal j asked o r w = or_else (header_refusal j) (cond (ltb o out_length || ltb r (count_of j asked) || ltb w work_entries) (Some Table) None)
 
--- a set of links, as what a file holds
-abbrev pub In : Links → ℕ → ℕ → Type 0
-In S u v = S u v ≡ true
+-- a set of links, as what a file holds; 02, wish 13: links of journals have kind 0
+abbrev pub In : Links → ℕ → ℕ → ℕ → Type 0
+In S u v k = (S u v ≡ true) × (k ≡ 0)
 
--- a file of the set S in the first bytes of the output; m, which is its m, is the number of links in S
+-- a file of the set S, of version 1, in the first bytes of the output; m, which is its m, is the number of links in S
 pub record SetWritten (n : ℕ) (S : Links) (out out' : List ℕ) (m : ℕ) : Type 0 where
-  pub file : FileWritten n (In S) out out' m
+  pub file : FileWritten 1 n (In S) out out' m
   pub live : m ≡ live n S
 
 -- the links present after the entries followed are written, the numbers of these stand in their table, and what lies past both is unchanged; and

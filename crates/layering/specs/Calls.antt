@@ -14,8 +14,8 @@ use Rattle.cores.specs.Calls.{WorkKept}
 abbrev pub layer_in : List ℕ → ℕ → ℕ
 layer_in t e = get_or t e 0
 
--- the first m entries are the layers of the links inside A and B, K in number, and E of the layers add up to the links from A to B; the later
--- entries are unchanged, and so is the work table past the entries that it needs
+-- the first m entries are the layers of the links inside A and B, K in number, and E of the layers add up to the weights of the links from A to B
+-- (02, wish 13); the later entries are unchanged, and so is the work table past the entries that it needs
 pub record LayersTold (f a b t t' w w' : List ℕ) (K : ℕ) : Type 0 where
   pub layering : Among (graph_of f).order a b (λ A B. LayeringInside (graph_of f) A B (layer_in t') K)
   pub links : sum (λ i. edges_in (graph_of f) (layer_in t') (suc i)) K ≡ edges (graph_of f) (group_of a) (group_of b)

@@ -20,7 +20,7 @@ fn check_layers<'a>(
 ) -> Result<Within<'a>, Refusal>
     ensures refused { IfErr result (λ r. layers_refusal file.now a.now b.now layers work ≡ Some r) }
     ensures none { OnOk result (layers_refusal file.now a.now b.now layers work ≡ None) }
-    ensures passed { IfOk result (λ w. (w.bytes.now ≡ file.now) × (w.a.now ≡ a.now) × (w.b.now ≡ b.now)) }
+    ensures passed { IfOk result (λ w. (w.file.bytes.now ≡ file.now) × (w.a.now ≡ a.now) × (w.b.now ≡ b.now)) }
 {
     let file = check_file(file)?;
     if layers < size_of(file.bytes) {
@@ -41,7 +41,7 @@ pub fn layers(
     ensures { LayersCall file.now a.now b.now layers.old layers.new work.old work.new result }
 {
     let links = check_layers(file, a, b, layers.len(), work.len())?;
-    let size = size_of(links.bytes);
-    let needed = work_length(order_of(links.bytes), size);
+    let size = size_of(links.file.bytes);
+    let needed = work_length(order_of(links.file.bytes), size);
     Ok(layer_links(&links, &mut layers[0..size], &mut work[0..needed]))
 }

@@ -11,11 +11,12 @@ use lib.ListN.{length, get_or, take}
 use lib.Seq.{length-take-le}
 use Rattle.std.proofs.lemmas.List.{get_or-take}
 use Rattle.graph.specs.Range.{sum, if}
-use Rattle.graph.specs.Graph.{Graph, Linked}
+use Rattle.graph.specs.Graph.{Graph}
 use Rattle.graph.specs.Order.{Ascending}
 use Rattle.graph.specs.Listed.{listed}
 use Rattle.graph.proofs.Sums.{sum-next, sum-tests}
 use Rattle.graph.proofs.Ascending.{ascending-later}
+use Rattle.network.specs.File.{LinkedAs}
 use Rattle.merging.specs.Merging.{Picked}
 
 -- of no numbers none passes
@@ -90,9 +91,10 @@ module _ {p : ℕ → Bool} (g : Graph) {l : List ℕ} (a : Picked p g.size l (l
   pub picked-ascending : Ascending g → Ascending (listed g l)
   picked-ascending next i h = ascending-later g next _ _ (a.rises i h) (a.below (suc i) h)
 
-  -- and are those that pass
-  pub picked-linked : (u v : ℕ) → Linked (listed g l) u v ↔ ((e : ℕ) × (e < g.size) × (p e ≡ true) × (g.source e ≡ u) × (g.target e ≡ v))
-  picked-linked u v = (
-    λ (i, h, s, t). (get_or l i 0, a.below i h, a.passes i h, s, t),
-    λ (e, h, q, s, t). let (i, m, r) = a.every e h q in (i, m, ap g.source r ∙ s, ap g.target r ∙ t),
+  -- and are those that pass, each of its kind
+  pub picked-linked : (kind : ℕ → ℕ) (u v k : ℕ)
+      → LinkedAs (listed g l) (λ i. kind (get_or l i 0)) u v k ↔ ((e : ℕ) × (e < g.size) × (p e ≡ true) × (g.source e ≡ u) × (g.target e ≡ v) × (kind e ≡ k))
+  picked-linked kind u v k = (
+    λ (i, h, s, t, q). (get_or l i 0, a.below i h, a.passes i h, s, t, q),
+    λ (e, h, q, s, t, w). let (i, m, r) = a.every e h q in (i, m, ap g.source r ∙ s, ap g.target r ∙ t, ap kind r ∙ w),
   )

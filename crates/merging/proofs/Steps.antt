@@ -11,12 +11,11 @@ use lib.Dec.{eqb, leb}
 use lib.ListN.{get_or}
 use Rattle.graph.specs.Range.{sum, if}
 use Rattle.graph.specs.Graph.{Graph}
-use Rattle.graph.specs.Sorting.{key_of}
 use Rattle.graph.proofs.Sums.{sum-next, sum-after, sum-none}
 use Rattle.merging.specs.declared.walks.Walk.{Walk}
 use Rattle.merging.specs.Shared.{is_one, is_shared, shared}
-use Rattle.merging.specs.Merging.{Run, PutRun, Picked, Merging, Merged, stepped}
-use Rattle.merging.proofs.Shares.{one-key, one-turned, shared-holds}
+use Rattle.merging.specs.Merging.{mark_of, Run, PutRun, Picked, Merging, Merged, stepped}
+use Rattle.merging.proofs.Shares.{one-mark, one-turned, shared-holds}
 use Rattle.merging.proofs.Walking.{Rising, turned, pass-first, first-unshared, pass-both, rest-unshared}
 use Rattle.merging.proofs.Picks.{picked-begin, picked-same, picked-yes, picked-no, picked-rest}
 
@@ -47,7 +46,7 @@ module _ {g h : Graph} (a : Rising g) (b : Rising h) {l : List ℕ} {i j k : ℕ
     merging-one : get_or l k 0 ≡ i → is_one g h i j ≡ true → Merging g h l (i + 1) (j + 1) (k + 1)
     merging-one s o =
         record {
-          walked = pass-both a b r.walked m n (one-key g h i j o);
+          walked = pass-both a b r.walked m n (one-mark g h i j o);
           picked = picked-yes r.picked s ((shared-holds g h i).1 (j, n, o));
           counted = omega (arith, r.counted, sum-next (λ e. if (is_shared h g e) 1) j, ap (λ b. if b 1) ((shared-holds h g j).1 (i, m, one-turned h g j i ∙ o)));
           few = omega (arith, r.few);
@@ -56,7 +55,7 @@ module _ {g h : Graph} (a : Rising g) (b : Rising h) {l : List ℕ} {i j k : ℕ
     -- of two that are not, the one that does not come after the other is passed
     module _ (o : is_one g h i j ≡ false) where
       -- an edge of the first,
-      merging-first : key_of g i ≤ key_of h j → Merging g h l (i + 1) j k
+      merging-first : mark_of g i ≤ mark_of h j → Merging g h l (i + 1) j k
       merging-first p =
           record {
             walked = pass-first a b r.walked m n p o;
@@ -66,7 +65,7 @@ module _ {g h : Graph} (a : Rising g) (b : Rising h) {l : List ℕ} {i j k : ℕ
           }
 
       -- of the second,
-      merging-second : key_of h j ≤ key_of g i → Merging g h l i (j + 1) k
+      merging-second : mark_of h j ≤ mark_of g i → Merging g h l i (j + 1) k
       merging-second p =
           let t = one-turned h g j i ∙ o in
           record {
@@ -77,7 +76,7 @@ module _ {g h : Graph} (a : Rising g) (b : Rising h) {l : List ℕ} {i j k : ℕ
           }
 
       -- or both
-      merging-neither : key_of g i ≡ key_of h j → Merging g h l (i + 1) (j + 1) k
+      merging-neither : mark_of g i ≡ mark_of h j → Merging g h l (i + 1) (j + 1) k
       merging-neither p =
           record {
             walked = pass-both a b r.walked m n p;
@@ -86,18 +85,18 @@ module _ {g h : Graph} (a : Rising g) (b : Rising h) {l : List ℕ} {i j k : ℕ
             few = omega (arith, r.few);
           }
 
-    -- so the tests of the keys tell which are passed, and an edge that stands next in the list is counted where it is one link with the other
-    pub merging-step : get_or l k 0 ≡ i → Merging g h l (i + if (leb (key_of g i) (key_of h j)) 1) (j + if (leb (key_of h j) (key_of g i)) 1) (k + if (is_one g h i j) 1)
+    -- so the tests of the marks tell which are passed, and an edge that stands next in the list is counted where it is one link with the other
+    pub merging-step : get_or l k 0 ≡ i → Merging g h l (i + if (leb (mark_of g i) (mark_of h j)) 1) (j + if (leb (mark_of h j) (mark_of g i)) 1) (k + if (is_one g h i j) 1)
     merging-step s = go (is_one g h i j) refl
       where
         u : ℕ
-        u = key_of g i
+        u = mark_of g i
 
         v : ℕ
-        v = key_of h j
+        v = mark_of h j
 
         go : (one : Bool) → is_one g h i j ≡ one → Merging g h l (i + if (leb u v) 1) (j + if (leb v u) 1) (k + if one 1)
-        go true o = let q = one-key g h i j o in rw (le-leb u v (omega arith), le-leb v u (omega arith)) (merging-one s o)
+        go true o = let q = one-mark g h i j o in rw (le-leb u v (omega arith), le-leb v u (omega arith)) (merging-one s o)
         go false o =
             elim (dec_lt u v) [
               | yes p ↦ rw (le-leb u v (omega arith), lt-leb v u p, add-zero j, add-zero k) (merging-first o (omega arith))
@@ -140,14 +139,14 @@ merging-run {g} {h} a b {l} {l'} {i} {j} {k} r n t p = steps n (omega arith)
         let place : k + suc q ≡ k + q + 1 = omega arith in
         rw (next, other, place) (merging-one a b (steps q (omega arith)) (omega (arith, t.first_most)) (omega (arith, t.second_most)) (p.put q (omega arith)) (t.one q (omega arith)))
 
--- a step is merged, where its edge is put into the list and its keys are those of the edges in hand
+-- a step is merged, where its edge is put into the list and its marks are those of the edges in hand
 pub merged-step : {g h : Graph} → Rising g → Rising h → {l l' : List ℕ} {w : Walk} (first second : ℕ) → Merged g h l w → w.first < g.size → w.second < h.size → PutRun l l' w.both w.first 1
-    → first ≡ key_of g w.first → second ≡ key_of h w.second → eqb first second ≡ is_one g h w.first w.second → Merged g h l' (stepped w first second)
+    → first ≡ mark_of g w.first → second ≡ mark_of h w.second → eqb first second ≡ is_one g h w.first w.second → Merged g h l' (stepped w first second)
 merged-step {g} {h} a b {l} {l'} {w} first second r m n p q t o =
     let put : get_or l' w.both 0 ≡ w.first = rw (add-zero w.both, add-zero w.first) at (p.put 0 (omega arith)) in
     rw (o, q, t) (merging-step a b (merging-same l' p.front r) m n put)
 
--- the key that is in hand after a step: that of the next edge where the one in hand is passed
-pub key-after : (g : Graph) (d after : ℕ) (passed : Bool) {key : ℕ} → key ≡ key_of g d → after ≡ key_of g (d + 1) → cond passed after key ≡ key_of g (d + if passed 1)
-key-after g d after true p q = q
-key-after g d after false p q = rw (add-zero d) p
+-- the mark that is in hand after a step: that of the next edge where the one in hand is passed
+pub mark-after : (g : Graph) (d after : ℕ) (passed : Bool) {mark : ℕ} → mark ≡ mark_of g d → after ≡ mark_of g (d + 1) → cond passed after mark ≡ mark_of g (d + if passed 1)
+mark-after g d after true p q = q
+mark-after g d after false p q = rw (add-zero d) p

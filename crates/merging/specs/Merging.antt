@@ -1,13 +1,18 @@
 -- What a merge of two networks has found so far.
-use Rattle.std.specs.Prelude.{ℕ, suc, ◌+◌, ◌<◌, ◌≤◌, Bool, true, false, List, ◌≡◌, eqb, leb, length, get_or}
+use Rattle.std.specs.Prelude.{ℕ, suc, ◌+◌, ◌*◌, ◌<◌, ◌≤◌, Bool, true, false, List, ◌≡◌, eqb, leb, length, get_or}
 use Rattle.graph.specs.Range.{sum, if}
 use Rattle.graph.specs.Graph.{Graph}
+use Rattle.graph.specs.Sorting.{key_of}
 use Rattle.merging.specs.declared.walks.Walk.{Walk}
 use Rattle.merging.specs.Shared.{is_one, is_shared}
 
 -- so many edges of two networks are compared at once
 abbrev pub run : ℕ
 run = 16
+
+-- an edge as one number, by source, then by target, then by weight: those of one link have the same
+abbrev pub mark_of : Graph → ℕ → ℕ
+mark_of g e = 16 * key_of g e + g.weight e
 
 -- from edge d of g and edge e of h on, n edges of both are one link each
 pub record Run (g h : Graph) (d e n : ℕ) : Type 0 where
@@ -47,6 +52,6 @@ pub record Merging (g h : Graph) (l : List ℕ) (i j k : ℕ) : Type 0 where
 abbrev pub Merged : Graph → Graph → List ℕ → Walk → Type 0
 Merged g h l w = Merging g h l w.first w.second w.both
 
--- a step of a walk, by the keys of the two edges in hand
+-- a step of a walk, by the marks of the two edges in hand
 abbrev pub stepped : Walk → ℕ → ℕ → Walk
 stepped w first second = record { first = w.first + if (leb first second) 1; second = w.second + if (leb second first) 1; both = w.both + if (eqb first second) 1 }

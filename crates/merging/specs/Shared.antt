@@ -3,9 +3,9 @@ use Rattle.std.specs.Prelude.{ℕ, Bool, not, ◌&&◌, eqb, ltb}
 use Rattle.graph.specs.Range.{sum, if, first}
 use Rattle.graph.specs.Graph.{Graph}
 
--- edge d of g and edge e of h are one link
+-- edge d of g and edge e of h are one link: 02, wish 13: only with equal weight
 abbrev pub is_one : Graph → Graph → ℕ → ℕ → Bool
-is_one g h d e = eqb (g.source d) (h.source e) && eqb (g.target d) (h.target e)
+is_one g h d e = eqb (g.source d) (h.source e) && (eqb (g.target d) (h.target e) && eqb (g.weight d) (h.weight e))
 
 -- edge d of g is a link of h too
 unfoldable pub is_shared : Graph → Graph → ℕ → Bool

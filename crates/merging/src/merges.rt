@@ -6,7 +6,7 @@ use crate::walks::list_common;
 use crate::{CommonTotals, Pair};
 use calls::put_file;
 use checking::check_file;
-use network::{MOST_LINKS, Refusal, SoundFile, link_at, order_of, size_of};
+use network::{MOST_LINKS, Refusal, SoundFile, link_at, order_of, size_of, stride};
 
 // The files, where neither is refused and their n are the same.
 #[tactic(auto, using(crate::proofs::Pairs::pair_ways))]
@@ -22,20 +22,22 @@ fn check_pair<'a>(first: &'a [u8], second: &'a [u8]) -> Result<Pair<'a>, Refusal
     Ok(Pair { first, second })
 }
 
-// 02, wish 11: the links in both files, written as a file, and how many are in both, in the first only and in the second only.
+// 02, wishes 11 and 13: the links in both files, written as a file of version 2 with the first one's kinds, and how many are in both, in the first only and in the second only.
 pub fn common(first: &[u8], second: &[u8], out: &mut [u8]) -> Result<CommonTotals, Refusal>
     ensures { CommonCall first.now second.now out.old out.new result }
 {
     let pair = check_pair(first, second)?;
     let mut list = [0u16; MOST_LINKS];
     let both = list_common(&pair, &mut list);
-    if out.len() < link_at(both) {
+    if out.len() < link_at(stride(2), both) {
         return Err(Refusal::Table);
     }
     put_file(
         &SoundFile {
             bytes: pair.first.bytes,
+            stride: pair.first.stride,
         },
+        2,
         &list[0..both],
         out,
     );

@@ -1,12 +1,12 @@
 // Two files walked side by side: which edges of the first are links of the second too.
 ghost use Rattle.std.specs.Prelude.{◌≡◌, ◌+◌, ◌<◌, ◌≤◌, true, cond, eqb, length};
-ghost use Rattle.network.specs.File.{graph_of};
+ghost use Rattle.network.specs.File.{stride_of, graph_of};
 ghost use Rattle.merging.specs.Shared.{is_shared, shared};
-ghost use Rattle.merging.specs.Merging.{run, Run, PutRun, Picked, stepped, Merged};
+ghost use Rattle.merging.specs.Merging.{run, mark_of, Run, PutRun, Picked, stepped, Merged};
 
 use crate::Pair;
 use checking::key_at;
-use network::size_of;
+use network::{AcceptedFile, size_of, weight_at};
 
 // Records of the same events agree for the most part: so many edges of both files are compared at once. Where they differ so many at most are passed
 // one by one before that is tried again.
@@ -22,7 +22,18 @@ struct Walk {
     both: usize,
 }
 
-// Whether two edges are one link, by their keys.
+// An edge as one number of 32 bits: by source, then by target, then by weight. The bytes of an edge are numbers here and below, so that the compiler
+// makes a walk of its own for every two versions.
+fn mark_at<const STRIDE: usize>(file: &AcceptedFile, edge: usize) -> u32
+    requires edge { edge < (graph_of file.now.bytes.now).size }
+    requires stride { STRIDE ≡ stride_of file.now.bytes.now }
+    ensures { result ≡ mark_of (graph_of file.now.bytes.now) edge }
+{
+    let weight = u32::from(weight_at(file.bytes, STRIDE, edge));
+    16 * key_at(file.bytes, STRIDE, edge) + weight
+}
+
+// Whether two edges are one link, by their marks.
 fn is_one(first: u32, second: u32) -> bool
     ensures { result ≡ eqb first second }
 {
@@ -30,25 +41,26 @@ fn is_one(first: u32, second: u32) -> bool
 }
 
 // Whether the next edges of both files, as many as a run has, are one link each. It is told without a branch, many edges at a time.
-fn is_run(pair: &Pair, walk: Walk) -> bool
+fn is_run<const FIRST: usize, const SECOND: usize>(pair: &Pair, walk: Walk) -> bool
+    requires strides { (FIRST ≡ stride_of pair.now.first.bytes.now) × (SECOND ≡ stride_of pair.now.second.bytes.now) }
     requires first { walk.first + run ≤ (graph_of pair.now.first.bytes.now).size }
     requires second { walk.second + run ≤ (graph_of pair.now.second.bytes.now).size }
     ensures { result ≡ true → Run (graph_of pair.now.first.bytes.now) (graph_of pair.now.second.bytes.now) walk.first walk.second run }
 {
     let mut same = true;
     for i in 0..RUN {
-        let first = key_at(pair.first.bytes, walk.first + i);
-        let second = key_at(pair.second.bytes, walk.second + i);
+        let first = mark_at::<FIRST>(&pair.first, walk.first + i);
+        let second = mark_at::<SECOND>(&pair.second, walk.second + i);
         same &= is_one(first, second);
     }
     same
 }
 
-// The key in hand after a step: that of the next edge where the one in hand is passed.
-fn next_key(passed: bool, key: u32, after: u32) -> u32
-    ensures { result ≡ cond passed after key }
+// The mark in hand after a step: that of the next edge where the one in hand is passed.
+fn next_mark(passed: bool, mark: u32, after: u32) -> u32
+    ensures { result ≡ cond passed after mark }
 {
-    if passed { after } else { key }
+    if passed { after } else { mark }
 }
 
 impl Walk {
@@ -69,7 +81,7 @@ impl Walk {
         }
     }
 
-    // One step, by the keys of the two edges in hand: of the two the one that comes first is passed, and both where they are the same. That of the
+    // One step, by the marks of the two edges in hand: of the two the one that comes first is passed, and both where they are the same. That of the
     // first file is put into the list in any case, and counted where they are one link. There is no branch, since which it is cannot be foretold.
     fn step(self, first: u32, second: u32, list: &mut [u16]) -> Walk
         requires room { self.both < length list.old }
@@ -86,7 +98,13 @@ impl Walk {
     }
 
     // So many steps, one at least. The edges that may be next are read before it is known which of them is, so that no step waits for them.
-    fn steps(self, pair: &Pair, list: &mut [u16], count: usize) -> Walk
+    fn steps<const FIRST: usize, const SECOND: usize>(
+        self,
+        pair: &Pair,
+        list: &mut [u16],
+        count: usize,
+    ) -> Walk
+        requires strides { (FIRST ≡ stride_of pair.now.first.bytes.now) × (SECOND ≡ stride_of pair.now.second.bytes.now) }
         requires some { 1 ≤ count }
         requires first { self.first + count ≤ (graph_of pair.now.first.bytes.now).size }
         requires second { self.second + count ≤ (graph_of pair.now.second.bytes.now).size }
@@ -97,23 +115,25 @@ impl Walk {
         ensures passed { self.first + self.second < result.first + result.second }
     {
         let mut walk = self;
-        let mut first = key_at(pair.first.bytes, walk.first);
-        let mut second = key_at(pair.second.bytes, walk.second);
+        let mut first = mark_at::<FIRST>(&pair.first, walk.first);
+        let mut second = mark_at::<SECOND>(&pair.second, walk.second);
         for _ in 1..count {
-            let after_first = key_at(pair.first.bytes, walk.first + 1);
-            let after_second = key_at(pair.second.bytes, walk.second + 1);
+            let after_first = mark_at::<FIRST>(&pair.first, walk.first + 1);
+            let after_second = mark_at::<SECOND>(&pair.second, walk.second + 1);
             walk = walk.step(first, second, list);
-            let in_hand = next_key(first <= second, first, after_first);
-            second = next_key(second <= first, second, after_second);
+            let in_hand = next_mark(first <= second, first, after_first);
+            second = next_mark(second <= first, second, after_second);
             first = in_hand;
         }
         walk.step(first, second, list)
     }
 }
 
-// The edges of the first file that are links of the second too, at the front of the list, in order, and how many they are.
-pub fn list_common(pair: &Pair, list: &mut [u16]) -> usize
-    requires { (graph_of pair.now.first.bytes.now).size ≤ length list.old }
+// The edges of the first file that are links of the second too, at the front of the list, in order, and how many they are: files of the two versions
+// told.
+fn walk_through<const FIRST: usize, const SECOND: usize>(pair: &Pair, list: &mut [u16]) -> usize
+    requires strides { (FIRST ≡ stride_of pair.now.first.bytes.now) × (SECOND ≡ stride_of pair.now.second.bytes.now) }
+    requires room { (graph_of pair.now.first.bytes.now).size ≤ length list.old }
     ensures picked { Picked (is_shared (graph_of pair.now.first.bytes.now) (graph_of pair.now.second.bytes.now)) (graph_of pair.now.first.bytes.now).size list.new result }
     ensures counted { result ≡ shared (graph_of pair.now.second.bytes.now) (graph_of pair.now.first.bytes.now) }
     ensures length { length list.new ≡ length list.old }
@@ -127,11 +147,26 @@ pub fn list_common(pair: &Pair, list: &mut [u16]) -> usize
     };
     while walk.first < first_size && walk.second < second_size {
         let left = (first_size - walk.first).min(second_size - walk.second);
-        walk = if RUN <= left && is_run(pair, walk) {
+        walk = if RUN <= left && is_run::<FIRST, SECOND>(pair, walk) {
             walk.pass_run(list)
         } else {
-            walk.steps(pair, list, left.min(STEPS))
+            walk.steps::<FIRST, SECOND>(pair, list, left.min(STEPS))
         };
     }
     walk.both
+}
+
+// The same of files of any version.
+pub fn list_common(pair: &Pair, list: &mut [u16]) -> usize
+    requires { (graph_of pair.now.first.bytes.now).size ≤ length list.old }
+    ensures picked { Picked (is_shared (graph_of pair.now.first.bytes.now) (graph_of pair.now.second.bytes.now)) (graph_of pair.now.first.bytes.now).size list.new result }
+    ensures counted { result ≡ shared (graph_of pair.now.second.bytes.now) (graph_of pair.now.first.bytes.now) }
+    ensures length { length list.new ≡ length list.old }
+{
+    match (pair.first.stride == 4, pair.second.stride == 4) {
+        (true, true) => walk_through::<4, 4>(pair, list),
+        (true, false) => walk_through::<4, 5>(pair, list),
+        (false, true) => walk_through::<5, 4>(pair, list),
+        (false, false) => walk_through::<5, 5>(pair, list),
+    }
 }

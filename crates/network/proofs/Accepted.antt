@@ -1,6 +1,6 @@
 -- When a file is accepted, what that says of its network, and how the refusal of a call is taken apart.
 use Prim.Native.Nat.{ℕ, ◌+◌, ◌<◌, ◌≤◌}
-use mathlib.Core.Bool.{Bool, true, false, not, cond, ◌||◌, false≢true, and-eq-true_iff}
+use mathlib.Core.Bool.{Bool, true, false, not, cond, ◌&&◌, ◌||◌, false≢true, and-eq-true_iff}
 use mathlib.Core.List.{List, [], ◌∷◌}
 use mathlib.Core.Logic.Iff
 use mathlib.Core.Logic.{◌↔◌, ◌≢◌}
@@ -8,7 +8,7 @@ use mathlib.Core.Path.{◌≡◌, refl, sym}
 use native.Mathlib.Decide.{dec_le}
 use native.Mathlib.Nat.{le_antisymm}
 use native.Mathlib.Omega.{arith}
-use borrow.Author.Tests.{ltb-false, leb-false, eqb-true, not-false, le-ltb, lt-leb, eq-eqb, ne_eqb}
+use borrow.Author.Tests.{ltb-false, leb-true, leb-false, eqb-true, not-false, le-ltb, le-leb, lt-leb, eq-eqb, ne_eqb}
 use lib.Dec.{eqb, leb, ltb}
 use lib.ListN.{length}
 use Rattle.graph.specs.Range.{first}
@@ -19,10 +19,11 @@ use Rattle.graph.proofs.Ascending.{ascending-simple}
 use Rattle.std.specs.Prelude.{Option, None, Some}
 use Rattle.std.proofs.lemmas.Option.{none-some}
 use Rattle.network.specs.declared.Refusal.{Refusal}
-use Rattle.network.specs.declared.Refusal.TheVariants.{Short, Mark, Version, Members, Links, Length, End, Repeat, Table, Member, Group, Zero, Row, Order, Mismatch}
-use Rattle.network.specs.File.{link_at, graph_of, outside, same, repeat, descent, number_of, number_told, or_else, old_refusal, file_refusal}
+use Rattle.network.specs.declared.Refusal.TheVariants.{Short, Mark, Version, Members, Links, Length, End, Repeat, Table, Member, Group, Zero, Row, Order, Mismatch, Kind}
+use Rattle.network.specs.File.{version_of, stride_of, link_at, kind_at, graph_of, outside, unknown, same, repeat, descent, number_of, number_told, or_else, any_order, old_refusal, file_refusal}
 use Rattle.network.specs.Accepted.{Distinct, Accepted, Holds}
 use Rattle.network.proofs.Descents.{descent-none}
+use Rattle.network.proofs.Versions.{version-none, stride-range, link-within}
 
 -- a test for less fails exactly when the other is no greater
 pub ltb-fails : (a b : ℕ) → (ltb a b ≡ false) ↔ (b ≤ a)
@@ -31,6 +32,10 @@ ltb-fails a b = (ltb-false a b, le-ltb a b)
 -- a test for no greater fails exactly when the other is less
 pub leb-fails : (a b : ℕ) → (leb a b ≡ false) ↔ (b < a)
 leb-fails a b = (leb-false a b, lt-leb a b)
+
+-- a test for no greater holds exactly when it is so
+pub leb-holds : (a b : ℕ) → (leb a b ≡ true) ↔ (a ≤ b)
+leb-holds a b = (leb-true a b, le-leb a b)
 
 -- a test for equal numbers holds exactly when they are
 pub eqb-holds : (a b : ℕ) → (eqb a b ≡ true) ↔ (a ≡ b)
@@ -80,6 +85,7 @@ number-some Zero h = omega (arith, h)
 number-some Row h = omega (arith, h)
 number-some (Order e) h = omega (arith, h)
 number-some Mismatch h = omega (arith, h)
+number-some (Kind e) h = omega (arith, h)
 
 -- so that what is told by 0 is none
 pub record Proper (r : Option Refusal) : Type 0 where
@@ -128,26 +134,54 @@ some_bytes f l = ne_eqb (length f) 0 (λ e. omega arith)
 pub no_bytes : Accepted []
 no_bytes =
     record {
-      sound = record { header = record { order-most = omega arith; size-most = omega arith; headed = λ h. absurd (omega arith) }; closed = omega arith };
+      sound = record {
+        header = record {
+          version-least = omega (arith, version-none [] refl);
+          version-most = omega (arith, version-none [] refl);
+          order-most = omega arith;
+          size-most = omega arith;
+          headed = λ h. absurd (omega arith);
+        };
+        closed = omega arith;
+        kinds = λ e h. absurd (omega arith);
+      };
       ascending = λ e h. absurd (omega arith);
     }
 
--- no two links of an accepted file are the same, so that it is accepted by the old rule
+-- no link has a kind above 7 exactly when the kind of each is at most 7
+pub unknown-kinds : (f : List ℕ) → (unknown f ≡ (graph_of f).size) ↔ ((e : ℕ) → e < (graph_of f).size → kind_at f e ≤ 7)
+unknown-kinds f = simp (first-all, ltb-fails) Iff.rfl
+
+-- no two links of an accepted file are the same
 pub accepted-distinct : {f : List ℕ} → Accepted f → Distinct f
 accepted-distinct {f} a = record { sound = a.sound; simple = ascending-simple (graph_of f) a.ascending }
 
--- a file is accepted by the old rule exactly when none of its numbers is given
-pub old-accepted : (f : List ℕ) → (old_refusal f ≡ None) ↔ Distinct f
-unfolding old_refusal
-old-accepted [] = (λ t. accepted-distinct no_bytes, λ a. refl)
-old-accepted (b ∷ r) = some (b ∷ r) (omega arith)
+-- a version is read exactly when it is 1 to the latest
+version-read : (v latest : ℕ) → ((leb 1 v && leb v latest) ≡ true) ↔ ((1 ≤ v) × (v ≤ latest))
+version-read v latest = simp (and-eq-true_iff, leb-holds) Iff.rfl
+
+-- a file passes all tests but that its links ascend exactly when none of these numbers is given, where version 1 or both are read
+pub any-accepted : (latest : ℕ) (f : List ℕ) → 1 ≤ latest → latest ≤ 2 → (any_order latest f ≡ None) ↔ (Distinct f × (version_of f ≤ latest))
+unfolding any_order
+any-accepted latest [] least most = (λ t. (accepted-distinct no_bytes, rw (version-none [] refl) least), λ a. refl)
+any-accepted latest (b ∷ r) least most = some (b ∷ r) (omega arith)
   where
-    some : (f : List ℕ) → 1 ≤ length f → (old_refusal f ≡ None) ↔ Distinct f
+    some : (f : List ℕ) → 1 ≤ length f → (any_order latest f ≡ None) ↔ (Distinct f × (version_of f ≤ latest))
     some f l =
-        simp (some_bytes f l, cond-none, first-fails, ltb-fails, not-fails, eqb-holds) (
-          λ t. search ((outside-closed (graph_of f)).0, (repeat-simple (graph_of f)).0),
-          λ a. let h = a.sound.header.headed l in search ((outside-closed (graph_of f)).1 a.sound.closed, (repeat-simple (graph_of f)).1 a.simple) depth 10,
+        simp (some_bytes f l, cond-none, first-fails, ltb-fails, not-fails, version-read, eqb-holds) (
+          λ t. let v : version_of f ≤ 2 = omega arith in
+              search ((outside-closed (graph_of f)).0, (unknown-kinds f).0, (repeat-simple (graph_of f)).0),
+          λ (a, v). let h = a.sound.header.headed l in
+              search ((outside-closed (graph_of f)).1 a.sound.closed, (unknown-kinds f).1 a.sound.kinds, (repeat-simple (graph_of f)).1 a.simple) depth 12,
         )
+
+-- a file is accepted by the old rule exactly when it is of version 1 and passes them
+pub old-accepted : (f : List ℕ) → (old_refusal f ≡ None) ↔ (Distinct f × (version_of f ≤ 1))
+old-accepted f = any-accepted 1 f (omega arith) (omega arith)
+
+-- so it is of version 1
+pub old-version : (f : List ℕ) → old_refusal f ≡ None → version_of f ≡ 1
+old-version f e = let (d, v) = (old-accepted f).0 e in omega (arith, d.sound.header.version-least)
 
 -- a file is accepted exactly when none of its own numbers is given
 pub accepted : (f : List ℕ) → (file_refusal f ≡ None) ↔ Accepted f
@@ -161,23 +195,32 @@ accepted f = (taken, given)
     stands : (cond (ltb (descent g) g.size) (Some (Order (descent g))) None ≡ None) ↔ (descent g ≡ g.size)
     stands = (λ h. (first-fails _ _).0 ((cond-none _ (Order (descent g)) None).0 h).0, λ h. rw ((first-fails _ _).1 h))
 
+    -- the other numbers
+    rest : (any_order 2 f ≡ None) ↔ (Distinct f × (version_of f ≤ 2))
+    rest = any-accepted 2 f (omega arith) (omega arith)
+
     taken : file_refusal f ≡ None → Accepted f
     taken h =
-        let (p, q) = (or_else-both (old_refusal f) _).0 h in
-        let d = (old-accepted f).0 p in
+        let (p, q) = (or_else-both (any_order 2 f) _).0 h in
+        let d = (rest.0 p).0 in
         record { sound = d.sound; ascending = (descent-none g d.simple).0 (stands.0 q) }
 
     given : Accepted f → file_refusal f ≡ None
     given a =
         let d = accepted-distinct a in
-        (or_else-both (old_refusal f) _).1 ((old-accepted f).1 d, stands.1 ((descent-none g d.simple).1 a.ascending))
+        (or_else-both (any_order 2 f) _).1 (rest.1 (d, a.sound.header.version-most), stands.1 ((descent-none g d.simple).1 a.ascending))
 
 -- where another refusal comes after the file's, there is none exactly when the file is accepted and the other is none
 pub accepted-or_else : (f : List ℕ) (s : Option Refusal) → (or_else (file_refusal f) s ≡ None) ↔ (Accepted f × (s ≡ None))
 accepted-or_else f s =
     (λ h. let (p, q) = (or_else-both (file_refusal f) s).0 h in ((accepted f).0 p, q), λ (p, q). (or_else-both (file_refusal f) s).1 ((accepted f).1 p, q))
 
--- every edge lies within its file
-pub edge-within : (f : List ℕ) (e : ℕ) → Holds f e → (e < 65536) × (link_at (e + 1) ≤ length f)
+-- every edge lies within its file, all its bytes
+pub edge-within : (f : List ℕ) (e : ℕ) → Holds f e → (e < 65536) × (link_at (stride_of f) e + stride_of f ≤ length f)
 edge-within [] e (h, l) = absurd (omega arith)
-edge-within (b ∷ r) e (h, l) = omega (arith, (h.headed (omega arith)).exact, h.size-most)
+edge-within (b ∷ r) e (h, l) = omega (arith, (h.headed (omega arith)).exact, h.size-most, link-within (stride_of (b ∷ r)) e (graph_of (b ∷ r)).size l)
+
+-- where it begins there are its four bytes or five
+pub edge-room : (f : List ℕ) (s e : ℕ) → Holds f e → s ≡ stride_of f → (4 ≤ s) × (s ≤ 5) × (e < 65536) × (link_at s e + s ≤ length f)
+edge-room f s e h q =
+    rw q (let (l, m) = edge-within f e h in let (least, most) = stride-range (version_of f) in (least, most, l, m))

@@ -7,9 +7,9 @@ use Rattle.graph.specs.Graph.{reverse}
 use Rattle.graph.specs.Order.{rank_by, nth_by, starts, rows}
 use Rattle.std.specs.Prelude.{Option}
 use Rattle.network.specs.declared.Refusal.{Refusal}
-use Rattle.network.specs.File.{graph_of, number_told, link_told, old_refusal, file_refusal}
+use Rattle.network.specs.File.{version_of, stride, kind_at, weight_of, graph_of, number_told, link_told, any_order, old_refusal, file_refusal}
 use Rattle.network.specs.Refusals.{index_refusal, row_refusal, count_refusal, core_refusal, level_refusal, equal_level_refusal, layers_refusal, harmonic_refusal, out_refusal, write_refusal, order_refusal}
-use Rattle.network.specs.Bytes.{written}
+use Rattle.network.specs.Bytes.{kind_bytes, ordered}
 
 -- the bytes of links between members below 256
 abbrev pub links : List (ℕ × ℕ) → List ℕ
@@ -19,6 +19,15 @@ links ((u, v) ∷ l) = u ∷ 0 ∷ v ∷ 0 ∷ links l
 -- a file of version 1 with n members and m links, both below 256, and these bytes after them
 abbrev pub small : ℕ → ℕ → List ℕ → List ℕ
 small n m rest = 0x56 ∷ 0x43 ∷ 0x48 ∷ 1 ∷ 0 ∷ n ∷ 0 ∷ m ∷ 0 ∷ rest
+
+-- the bytes of links, each with its kind
+abbrev pub kinded : List (ℕ × ℕ × ℕ) → List ℕ
+kinded [] = []
+kinded ((u, v, k) ∷ l) = u ∷ 0 ∷ v ∷ 0 ∷ k ∷ kinded l
+
+-- a file of version 2, in the same way
+abbrev pub small2 : ℕ → ℕ → List ℕ → List ℕ
+small2 n m rest = 0x56 ∷ 0x43 ∷ 0x48 ∷ 2 ∷ 0 ∷ n ∷ 0 ∷ m ∷ 0 ∷ rest
 
 -- network W
 abbrev pub W : List ℕ
@@ -74,16 +83,25 @@ cases =
     ∷ record { file = 0x56 ∷ 0x43 ∷ 0x48 ∷ 1 ∷ 0 ∷ 0 ∷ 8 ∷ 0 ∷ 0 ∷ []; refusal = none }
     ∷ record { file = small 0 0 []; refusal = none }
     ∷ record { file = W; refusal = none }
+    ∷ record { file = 0x56 ∷ 0x43 ∷ 0x48 ∷ 3 ∷ 0 ∷ 1 ∷ 8 ∷ 1 ∷ 32 ∷ []; refusal = plain 3 }
+    ∷ record { file = small2 2 2 (links ((0, 1) ∷ (1, 0) ∷ [])); refusal = plain 6 }
+    ∷ record { file = small 2 2 (kinded ((0, 1, 0) ∷ (1, 0, 0) ∷ [])); refusal = plain 6 }
+    ∷ record { file = small2 2 3 (kinded ((1, 0, 8) ∷ (1, 0, 0) ∷ (2, 0, 0) ∷ [])); refusal = at 7 2 }
+    ∷ record { file = small2 2 4 (kinded ((1, 0, 7) ∷ (1, 0, 0) ∷ (0, 1, 8) ∷ (0, 0, 255) ∷ [])); refusal = at 22 2 }
+    ∷ record { file = small2 2 3 (kinded ((1, 0, 7) ∷ (0, 1, 0) ∷ (1, 0, 0) ∷ [])); refusal = at 8 2 }
+    ∷ record { file = small2 2 2 (kinded ((1, 0, 7) ∷ (0, 1, 0) ∷ [])); refusal = at 15 1 }
+    ∷ record { file = small2 2 2 (kinded ((0, 1, 7) ∷ (1, 0, 0) ∷ [])); refusal = none }
+    ∷ record { file = small2 0 0 []; refusal = none }
     ∷ []
 
 -- each has its refusal
 pub case-refusals : map (λ c. numbers (file_refusal c.file)) cases ≡ map (λ c. c.refusal) cases
-unfolding file_refusal old_refusal first
+unfolding file_refusal any_order version_of stride kind_at first
 case-refusals = refl
 
 -- by the old rule links may stand in any order, and none may repeat another
 pub old-refusals : map (λ f. numbers (old_refusal f)) (two_descents ∷ mixed_w ∷ small 2 2 (links ((1, 0) ∷ (1, 0) ∷ [])) ∷ []) ≡ none ∷ none ∷ at 8 1 ∷ []
-unfolding old_refusal first
+unfolding any_order version_of stride kind_at first
 old-refusals = refl
 
 -- the tables of a file
@@ -101,13 +119,26 @@ W-literal =
 
 -- whatever the order of its links
 pub W-tables : tables W ∷ tables mixed_w ∷ [] ≡ W-literal ∷ W-literal ∷ []
-unfolding sum first flat rank_by nth_by
+unfolding sum first flat rank_by nth_by version_of stride
 W-tables = refl
 
 -- W's links in another order are written as W
-pub W-written : written (graph_of mixed_w) ≡ W
-unfolding sum first flat rank_by nth_by
+pub W-written : ordered mixed_w ≡ W
+unfolding sum first flat rank_by nth_by version_of stride kind_bytes
 W-written = refl
+
+-- a file of version 2 is written in version 2, each link with its kind
+pub kinds-written : ordered (small2 3 3 (kinded ((2, 0, 7) ∷ (0, 2, 1) ∷ (0, 1, 5) ∷ []))) ≡ small2 3 3 (kinded ((0, 1, 5) ∷ (0, 2, 1) ∷ (2, 0, 7) ∷ []))
+unfolding sum first flat rank_by nth_by version_of stride kind_at kind_bytes
+kinds-written = refl
+
+-- the kinds 0 to 7 weigh 1, 1, 2, 3, 4, 6, 8 and 12, and every link of version 1 weighs 1
+pub kinds-weigh : map (graph_of (small2 1 8 (kinded ((0, 0, 0) ∷ (0, 0, 1) ∷ (0, 0, 2) ∷ (0, 0, 3) ∷ (0, 0, 4) ∷ (0, 0, 5) ∷ (0, 0, 6) ∷ (0, 0, 7) ∷ [])))).weight (0 ∷ 1 ∷ 2 ∷ 3 ∷ 4 ∷ 5 ∷ 6 ∷ 7 ∷ [])
+    ∷ map (graph_of W).weight (0 ∷ 1 ∷ 2 ∷ 3 ∷ 4 ∷ 5 ∷ 6 ∷ 7 ∷ [])
+    ∷ []
+    ≡ (1 ∷ 1 ∷ 2 ∷ 3 ∷ 4 ∷ 6 ∷ 8 ∷ 12 ∷ []) ∷ (1 ∷ 1 ∷ 1 ∷ 1 ∷ 1 ∷ 1 ∷ 1 ∷ 1 ∷ []) ∷ []
+unfolding version_of stride kind_at weight_of
+kinds-weigh = refl
 
 -- the group of five members, and of all six of W
 abbrev five : List ℕ
@@ -188,6 +219,9 @@ calls =
     ∷ record { given = order_refusal mixed_w 40; expected = plain 9 }
     ∷ record { given = order_refusal mixed_w 41; expected = none }
     ∷ record { given = order_refusal (0x56 ∷ 0x43 ∷ 0x48 ∷ 2 ∷ 0 ∷ 0 ∷ 0 ∷ 0 ∷ 0 ∷ []) 9; expected = plain 3 }
+    ∷ record { given = order_refusal (small2 2 2 (kinded ((1, 0, 9) ∷ (0, 1, 0) ∷ []))) 0; expected = plain 3 }
+    ∷ record { given = write_refusal (small2 2 2 (kinded ((0, 1, 7) ∷ (1, 0, 0) ∷ []))) 18; expected = plain 9 }
+    ∷ record { given = write_refusal (small2 2 2 (kinded ((0, 1, 7) ∷ (1, 0, 0) ∷ []))) 19; expected = none }
     ∷ record { given = index_refusal [] 1 0 0 0; expected = plain 9 }
     ∷ record { given = index_refusal [] 1 0 1 0; expected = none }
     ∷ record { given = core_refusal [] [] [] 0 0 1; expected = plain 9 }
@@ -204,5 +238,5 @@ calls =
 
 -- each gives what it is to
 pub call-refusals : map (λ c. numbers c.given) calls ≡ map (λ c. c.expected) calls
-unfolding first old_refusal file_refusal index_refusal row_refusal count_refusal core_refusal level_refusal equal_level_refusal layers_refusal harmonic_refusal out_refusal
+unfolding first any_order version_of stride kind_at file_refusal index_refusal row_refusal count_refusal core_refusal level_refusal equal_level_refusal layers_refusal harmonic_refusal out_refusal
 call-refusals = refl

@@ -1,5 +1,7 @@
 pub mod Sides
 pub mod Descents
+pub mod Versions
+pub mod Kinded
 pub mod Accepted
 pub mod Answers
 pub mod Groups

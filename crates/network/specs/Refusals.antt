@@ -2,7 +2,7 @@
 use Rattle.std.specs.Prelude.{ℕ, suc, ◌+◌, ◌-◌, ◌*◌, Bool, not, cond, ◌&&◌, ◌||◌, List, Option, None, Some, eqb, leb, ltb, length, get_or}
 use Rattle.network.specs.declared.Refusal.{Refusal}
 use Rattle.network.specs.declared.Refusal.TheVariants.{Table, Member, Group, Zero, Row}
-use Rattle.network.specs.File.{link_at, graph_of, or_else, old_refusal, file_refusal}
+use Rattle.network.specs.File.{graph_of, file_length, or_else, old_refusal, file_refusal}
 use Rattle.network.specs.Groups.{is_group}
 
 -- 01's order: the number of the file's own bytes, 9 where a table is short, and what comes after
@@ -73,14 +73,14 @@ layers_refusal f a b l w =
     let g = graph_of f in
     in_order f (short_groups g.order a b || ltb l g.size || ltb w (work_length g.order g.size)) (in_groups g.order a b None)
 
--- a call that writes a file of m links: the refusal of what it reads, and 9 where the output is shorter than the file
+-- a call that writes a file of k bytes: the refusal of what it reads, and 9 where the output is shorter than the file
 unfoldable pub out_refusal : Option Refusal → ℕ → ℕ → Option Refusal
-out_refusal r m o = or_else r (cond (ltb o (link_at m)) (Some Table) None)
+out_refusal r k o = or_else r (cond (ltb o k) (Some Table) None)
 
 -- the file and the length of the output
 abbrev pub write_refusal : List ℕ → ℕ → Option Refusal
-write_refusal f = out_refusal (file_refusal f) (graph_of f).size
+write_refusal f = out_refusal (file_refusal f) (file_length f)
 
 -- 02, wish 7: the file by the old rule and the length of the output
 abbrev pub order_refusal : List ℕ → ℕ → Option Refusal
-order_refusal f = out_refusal (old_refusal f) (graph_of f).size
+order_refusal f = out_refusal (old_refusal f) (file_length f)

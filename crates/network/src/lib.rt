@@ -15,7 +15,10 @@ pub const MOST_LINKS: usize = 8192;
 
 pub const MOST_WORK: usize = 2 * MOST_LINKS + 6 * MOST_MEMBERS + 2;
 
-// 01, 02: why a call is refused, in the order of the numbers. Three of them name a link, the first that is so. No number is 13.
+// 02, wish 13: the weights of the kinds 0 to 7.
+const WEIGHTS: [u16; 8] = [1, 1, 2, 3, 4, 6, 8, 12];
+
+// 01, 02: why a call is refused, in the order of the numbers. Four of them name a link, the first that is so. No number is 13.
 #[derive(Clone, Copy, Debug, PartialEq, Eq)]
 pub enum Refusal {
     // of a file's own bytes: too few for a header, another mark or version, too many members or links, another length
@@ -42,6 +45,8 @@ pub enum Refusal {
     Order { link: u16 },
     // the n of two files differ
     Mismatch,
+    // a link has a kind above 7
+    Kind { link: u16 },
 }
 
 // n and m, which are small: so every entry of the work table fits.
@@ -67,6 +72,9 @@ pub enum Side {
     Target,
 }
 
-pub use bytes::{put_edge, put_header};
-pub use files::{end_at, is_marked, link_at, order_of, size_of, u16_at, work_length};
+pub use bytes::{put_edge, put_header, put_link};
+pub use files::{
+    end_at, is_marked, kind_at, link_at, order_of, size_of, stride, u16_at, version_of, weight_at,
+    work_length,
+};
 pub use tested::{AcceptedFile, ReadableFile, SoundFile};

@@ -25,6 +25,7 @@ impl Refusal {
             Refusal::Row => 14,
             Refusal::Order { .. } => 15,
             Refusal::Mismatch => 21,
+            Refusal::Kind { .. } => 22,
         }
     }
 
@@ -34,9 +35,10 @@ impl Refusal {
         ensures fits { IfSome result (λ e. e < 65536) }
     {
         match self {
-            Refusal::End { link } | Refusal::Repeat { link } | Refusal::Order { link } => Some(
-                link,
-            ),
+            Refusal::End { link }
+            | Refusal::Repeat { link }
+            | Refusal::Order { link }
+            | Refusal::Kind { link } => Some(link),
             _ => None,
         }
     }

@@ -6,14 +6,14 @@ use mathlib.Core.Path.{◌≡◌, refl, sym, ◌∙◌}
 use native.Mathlib.Omega.{arith}
 use lib.ListN.{set, length-set}
 use lib.Seq.{get_or-set_other, drop-set-lt}
-use Rattle.graph.specs.Graph.{Graph}
+use Rattle.graph.specs.Graph.{Graph, everyone}
 use Rattle.graph.specs.Linkage.{degree}
 use Rattle.graph.proofs.Sums.{sum-ext}
 use Rattle.graph.proofs.Linkage.{degree-same}
 use Rattle.graph.proofs.Links.{degree-links}
 use Rattle.peeling.specs.declared.Peel.{Peel}
 use Rattle.peeling.specs.declared.Scope.{Scope}
-use Rattle.peeling.specs.Peeling.{start_of, row_length, queue_of, entries, between, live, Rows, Indexed, Tabled, Kept, Ended}
+use Rattle.peeling.specs.Peeling.{start_of, row_length, row_entry, queue_of, entries, between, whole_degree, live, Rows, Indexed, Tabled, SingleRows, Kept, Ended}
 use Rattle.peeling.proofs.Live.{live-ext}
 use Rattle.peeling.proofs.Tables.{row_inside}
 
@@ -48,7 +48,17 @@ module _ {n m : ℕ} {w w' : List ℕ} (r : Rows n m w) (k : Kept n m w w') wher
   pub start-kept : (p : ℕ) → p ≤ 2 * n → start_of w' p ≡ start_of w p
   start-kept p l = k.index p (omega arith)
 
-  -- so the entries of a row are
+  -- so the entries of a row are, each by itself
+  row-kept : (p i : ℕ) → p < 2 * n → i < row_length w' p → (i < row_length w p) × (row_entry n w' (start_of w' p + i) ≡ row_entry n w (start_of w p + i))
+  row-kept p i l b =
+      let c : i < row_length w p = rw (start-kept p (omega arith), start-kept (p + 1) (omega arith)) at b in
+      (c, rw (start-kept p (omega arith)) (k.index (2 * n + 1 + (start_of w p + i)) (omega (arith, row_inside r p i l c))))
+
+  -- and weigh 1 where they did
+  pub single-kept : SingleRows n w → SingleRows n w'
+  single-kept h p i l b = let (c, e) = row-kept p i l b in rw e (h p i l c)
+
+  -- and together
   pub entries-kept : (p c q : ℕ) → p < 2 * n → c ≤ row_length w p → entries n w' p c q ≡ entries n w p c q
   unfolding entries
   entries-kept p c q l h =
@@ -60,6 +70,10 @@ module _ {n m : ℕ} {w w' : List ℕ} (r : Rows n m w) (k : Kept n m w w') wher
   unfolding between
   between-kept p q l = rw (start-kept p (omega arith), start-kept (p + 1) (omega arith)) (entries-kept p _ q l (omega arith))
 
+  -- and the degrees in the whole graph
+  pub whole-kept : (p : ℕ) → p < 2 * n → whole_degree n w' p ≡ whole_degree n w p
+  whole-kept p l = degree-links (between n w') (between n w) everyone p (λ q b. between-kept p q l)
+
   -- a table that keeps rows holds rows
   pub rows-kept : Rows n m w'
   rows-kept =
@@ -67,9 +81,9 @@ module _ {n m : ℕ} {w w' : List ℕ} (r : Rows n m w) (k : Kept n m w w') wher
         long = omega (arith, r.long, k.same_length);
         ascending = λ p l. rw (start-kept p (omega arith), start-kept (p + 1) (omega arith)) (r.ascending p l);
         last = rw (start-kept (2 * n) (omega arith)) r.last;
-        inside = λ p i l b.
-            let c : i < row_length w p = rw (start-kept p (omega arith), start-kept (p + 1) (omega arith)) at b in
-            rw (start-kept p (omega arith), k.index (2 * n + 1 + (start_of w p + i)) (omega (arith, row_inside r p i l c))) (r.inside p i l c);
+        inside = λ p i l b. let (c, e) = row-kept p i l b in rw e (r.inside p i l c);
+        heavy = λ p i l b. let (c, e) = row-kept p i l b in rw e (r.heavy p i l c);
+        light = λ p l. rw (whole-kept p l) (r.light p l);
         symmetric = λ p q a b. between-kept p q a ∙ r.symmetric p q a b ∙ sym (between-kept q p b);
       }
 

@@ -1,5 +1,5 @@
--- The degrees while a place is dropped. When the head goes past it they are as they were; then each place of its row loses an edge, so that a
--- degree and the entries passed are together what the degree was; and when the whole row is passed, each degree is the number of edges to places
+-- The degrees while a place is dropped. When the head goes past it they are as they were; then each place of its row loses its edge, so that a
+-- degree and the weights passed are together what the degree was; and when the whole row is passed, each degree is the weight of the edges to places
 -- not dropped.
 use Prim.Native.Nat.{ℕ, ◌+◌, ◌-◌, ◌*◌, ◌<◌, ◌≤◌}
 use mathlib.Core.Bool.{true, not}
@@ -16,7 +16,7 @@ use Rattle.graph.proofs.Tests.{if-same}
 use Rattle.graph.proofs.Degrees.{without}
 use Rattle.graph.proofs.Linkage.{degree-without, degree-same}
 use Rattle.peeling.specs.declared.Peel.{Peel}
-use Rattle.peeling.specs.Peeling.{start_of, row_length, row_entry, degree_of, queue_of, entries, between, live, standing, Peeling, Dropping, Kept, undropped, past, with_degree}
+use Rattle.peeling.specs.Peeling.{start_of, row_length, row_place, row_weight, degree_of, queue_of, entries, between, live, standing, Peeling, Dropping, Kept, undropped, past, with_degree}
 use Rattle.peeling.specs.Recounts.{SideAt, OnSide}
 use Rattle.peeling.proofs.Live.{live-suc}
 use Rattle.peeling.proofs.Tables.{with-degree-same, with-degree-other, with-degree-queue}
@@ -25,14 +25,15 @@ use Rattle.peeling.proofs.Totals.{total-enough, total-drops}
 use Rattle.peeling.proofs.Apart.{between-apart}
 
 -- one entry more of a row
-pub entries-suc : (n : ℕ) (w : List ℕ) (p k q : ℕ) → entries n w p (k + 1) q ≡ entries n w p k q + if (eqb (row_entry n w (start_of w p + k)) q) 1
+pub entries-suc : (n : ℕ) (w : List ℕ) (p k q : ℕ) → entries n w p (k + 1) q
+    ≡ entries n w p k q + if (eqb (row_place n w (start_of w p + k)) q) (row_weight n w (start_of w p + k))
 unfolding entries sum
 entries-suc n w p k q = rw (add-one k)
 
--- a part of a row has no more entries than the row
+-- a part of a row weighs no more than the row
 pub entries-part : (n : ℕ) (w : List ℕ) (p k q : ℕ) → k ≤ row_length w p → entries n w p k q ≤ between n w p q
 unfolding entries between
-entries-part n w p k q l = sum-part (λ i. if (eqb (row_entry n w (start_of w p + i)) q) 1) k (row_length w p) l
+entries-part n w p k q l = sum-part (λ i. if (eqb (row_place n w (start_of w p + i)) q) (row_weight n w (start_of w p + i))) k (row_length w p) l
 
 module _ {n m : ℕ} {need : ℕ → ℕ} {w : List ℕ} {s : Peel} (k : Peeling n m need w s) (l : s.head < s.tail) where
   -- at the head is a place
@@ -60,6 +61,7 @@ drop-begins {n} {m} {need} {w} {s} k l {q} e =
       queued =
           record {
             rows = k.queued.rows;
+            single = k.queued.single;
             waiting = omega arith;
             queue = k.queued.queue;
             sizes = record { sources = k.queued.sizes.sources; targets = k.queued.sizes.targets };
@@ -84,51 +86,55 @@ drop-begins {n} {m} {need} {w} {s} k l {q} e =
     is-without p = rw (add-one s.head, e) (live-suc (queue_of n m w) s.head p)
 
 module _ {n m : ℕ} {need : ℕ → ℕ} {w : List ℕ} {s : Peel} {place k : ℕ} (d : Dropping n m need w s place k) (l : k < row_length w place) where
-  -- the place that the next entry of the row is
+  -- the place in the next entry of the row
   abbrev pub other : ℕ
-  other = row_entry n w (start_of w place + k)
+  other = row_place n w (start_of w place + k)
+
+  -- and the weight
+  abbrev pub loss : ℕ
+  loss = row_weight n w (start_of w place + k)
 
   -- it is a place
   pub drop-inside : other < 2 * n
   drop-inside = d.queued.rows.inside place k d.is-place l
 
-  -- which is not passed before
-  unpassed : entries n w place k other + 1 ≤ between n w place other
-  unpassed = omega (arith, entries-part n w place (k + 1) other (omega arith), entries-suc n w place k other, if-same other other 1 refl)
+  -- the edge to which is not passed before
+  unpassed : entries n w place k other + loss ≤ between n w place other
+  unpassed = omega (arith, entries-part n w place (k + 1) other (omega arith), entries-suc n w place k other, if-same other other loss refl)
 
-  -- so it is of the other side
-  pub drop-across : ltb other n ≡ not (ltb place n)
-  drop-across = grind (arith, nat_tests, unpassed, drop-inside, apart (inl refl), apart (inr refl))
+  -- so it is of the other side, if the edge weighs anything
+  pub drop-across : 1 ≤ loss → ltb other n ≡ not (ltb place n)
+  drop-across h = grind (arith, nat_tests, h, unpassed, drop-inside, apart (inl refl), apart (inr refl))
     where
       apart : {first : ℕ} → SideAt n first → OnSide n first place → OnSide n first other → between n w place other ≡ 0
       apart s = between-apart d.total.held.tabled s place other
 
-  -- and has an edge to lose
-  pub drop-some : 1 ≤ degree_of n m w other
+  -- and has that edge to lose
+  pub drop-some : loss ≤ degree_of n m w other
   drop-some = omega (arith, d.degrees other drop-inside, unpassed)
 
   -- the table with the edge lost
   abbrev pub less : List ℕ
-  less = with_degree n m w other (degree_of n m w other - 1)
+  less = with_degree n m w other (degree_of n m w other - loss)
 
   -- keeps the rows
   pub less-keeps : Kept n m w less
-  less-keeps = kept_set n m w (2 * n + 1 + 2 * m + other) (degree_of n m w other - 1) (omega arith) (omega (arith, drop-inside))
+  less-keeps = kept_set n m w (2 * n + 1 + 2 * m + other) (degree_of n m w other - loss) (omega arith) (omega (arith, drop-inside))
 
   -- and the queue
   pub less-queue : (i : ℕ) → queue_of n m w i ≡ queue_of n m less i
-  less-queue i = sym (with-degree-queue n m w other (degree_of n m w other - 1) i drop-inside)
+  less-queue i = sym (with-degree-queue n m w other (degree_of n m w other - loss) i drop-inside)
 
-  -- in it the place's degree is one less
-  pub less-same : degree_of n m less other + 1 ≡ degree_of n m w other
-  less-same = omega (arith, with-degree-same n m w other (degree_of n m w other - 1) (omega (arith, drop-inside, d.queued.rows.long)), drop-some)
+  -- in it the place's degree is less by the weight
+  pub less-same : degree_of n m less other + loss ≡ degree_of n m w other
+  less-same = omega (arith, with-degree-same n m w other (degree_of n m w other - loss) (omega (arith, drop-inside, d.queued.rows.long)), drop-some)
 
   -- and every other as it was
   pub less_other : (p : ℕ) → p ≢ other → degree_of n m less p ≡ degree_of n m w p
-  less_other p e = with-degree-other n m w other (degree_of n m w other - 1) p e
+  less_other p e = with-degree-other n m w other (degree_of n m w other - loss) p e
 
   -- so an edge is lost where the entry is
-  less-degree : (p : ℕ) → degree_of n m less p + if (eqb other p) 1 ≡ degree_of n m w p
+  less-degree : (p : ℕ) → degree_of n m less p + if (eqb other p) loss ≡ degree_of n m w p
   less-degree p = grind (arith, nat_tests, less-same, less_other p)
 
   -- what is left is not less than the place's edges to places not dropped

@@ -13,15 +13,19 @@ use Rattle.graph.proofs.Degrees.{without}
 use Rattle.peeling.specs.declared.Peel.{Peel}
 use Rattle.peeling.specs.Peeling.{degree_of, queue_of, live, Queued, Kept, Pushable, undropped, pushed, with_queued}
 use Rattle.peeling.proofs.Live.{live-suc, live-ext}
-use Rattle.peeling.proofs.Queues.{queue-room, queue-stays, queue-grows}
+use Rattle.peeling.proofs.Queues.{queue-most, queue-room, queue-stays, queue-grows}
 use Rattle.peeling.proofs.Sides.{sizes-same, sizes-some, sizes-without}
 use Rattle.peeling.proofs.Tables.{with-queued-same, with-queued-other, with-queued-degree}
-use Rattle.peeling.proofs.Kept.{kept_next, kept_set, between-kept, rows-kept, degree-kept}
+use Rattle.peeling.proofs.Kept.{kept_next, kept_set, single-kept, between-kept, rows-kept, degree-kept}
 
 -- a place that is not short can be pushed
 pub queued-room : {n m : ℕ} {need : ℕ → ℕ} {w : List ℕ} {s : Peel} → Queued n m need w s → (q : ℕ) → q < 2 * n
     → leb (need q) (degree_of n m w q) ≡ true → Pushable n s q
 queued-room k q l h = record { tail = queue-room k.queue q l h; side = sizes-some k.sizes q l (k.queue.short q l ∙ h) }
+
+-- any place put past the tail keeps the rows: there is always an entry for it
+pub put_keeps : {n m : ℕ} {need : ℕ → ℕ} {w : List ℕ} {s : Peel} → Queued n m need w s → (w' : List ℕ) (q : ℕ) → Kept n m w' (with_queued n m w' s.tail q)
+put_keeps {n} {m} {s = s} k w' q = kept_set n m w' (4 * n + 1 + 2 * m + s.tail) q (omega arith) (omega (arith, queue-most k.queue))
 
 -- the step: the rows and the queue are kept, and no place needs less
 pub record Step (n m : ℕ) (need need' : ℕ → ℕ) (w w' : List ℕ) (s : Peel) : Type 0 where
@@ -30,12 +34,23 @@ pub record Step (n m : ℕ) (need need' : ℕ → ℕ) (w w' : List ℕ) (s : Pe
   pub more : (p : ℕ) → p < 2 * n → need p ≤ need' p
   pub same : (i : ℕ) → i < s.tail → queue_of n m w i ≡ queue_of n m w' i
 
+-- a place is put past the tail, too
+pub step-put : {n m : ℕ} {need need' : ℕ → ℕ} {w w' : List ℕ} {s : Peel} → Step n m need need' w w' s → (q : ℕ) → Step n m need need' w (with_queued n m w' s.tail q) s
+step-put {n} {m} {w' = w'} {s} k q =
+    record {
+      queued = k.queued;
+      kept = kept_next k.kept (put_keeps k.queued w' q);
+      more = k.more;
+      same = λ i b. k.same i b ∙ sym (with-queued-other n m w' s.tail q i (ne_of_lt b));
+    }
+
 module _ {n m : ℕ} {need need' : ℕ → ℕ} {w w' : List ℕ} {s : Peel} (k : Step n m need need' w w' s) where
   -- no place has become short
   pub queued-stays : ((p : ℕ) → p < 2 * n → leb (need p) (degree_of n m w p) ≡ leb (need' p) (degree_of n m w' p)) → Queued n m need' w' s
   queued-stays e =
       record {
         rows = rows-kept k.queued.rows k.kept;
+        single = λ h. single-kept k.queued.rows k.kept (k.queued.single h);
         waiting = k.queued.waiting;
         queue = queue-stays (λ p q a b. sym (between-kept k.queued.rows k.kept p q a)) k.more k.same k.queued.queue e;
         sizes = sizes-same (live-ext s.tail k.same) k.queued.sizes;
@@ -49,8 +64,7 @@ module _ {n m : ℕ} {need need' : ℕ → ℕ} {w w' : List ℕ} {s : Peel} (k 
 
     -- keeps the rows
     pub full-keeps : Kept n m w full
-    full-keeps =
-        kept_next k.kept (kept_set n m w' (4 * n + 1 + 2 * m + s.tail) q (omega arith) (omega (arith, (queued-room k.queued q l enough).tail)))
+    full-keeps = (step-put k q).kept
 
     -- its degrees
     pub full-degree : (p : ℕ) → p < 2 * n → degree_of n m full p ≡ degree_of n m w' p
@@ -58,7 +72,7 @@ module _ {n m : ℕ} {need need' : ℕ → ℕ} {w w' : List ℕ} {s : Peel} (k 
 
     -- and the queue before the place
     pub full-queue : (i : ℕ) → i < s.tail → queue_of n m w i ≡ queue_of n m full i
-    full-queue i b = k.same i b ∙ sym (with-queued-other n m w' s.tail q i (ne_of_lt b))
+    full-queue = (step-put k q).same
 
     -- so the edges to places not dropped are as they were
     pub full-undropped : (p : ℕ) → p < 2 * n → undropped n m w s p ≡ undropped n m full s p
@@ -71,6 +85,7 @@ module _ {n m : ℕ} {need need' : ℕ → ℕ} {w w' : List ℕ} {s : Peel} (k 
     queued-grows less least e =
         record {
           rows = rows-kept k.queued.rows full-keeps;
+          single = λ h. single-kept k.queued.rows full-keeps (k.queued.single h);
           waiting = omega (arith, k.queued.waiting);
           queue =
               queue-grows (λ p r a b. sym (between-kept k.queued.rows full-keeps p r a)) k.more full-queue k.queued.queue q s.head l k.queued.waiting top

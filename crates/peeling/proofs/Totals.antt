@@ -14,9 +14,9 @@ use Rattle.graph.proofs.Degrees.{without, edges-same}
 use Rattle.graph.proofs.Links.{degree-links}
 use Rattle.graph.proofs.Cover.{edges-drop}
 use Rattle.peeling.specs.declared.Peel.{Peel}
-use Rattle.peeling.specs.Peeling.{degree_of, queue_of, between, live, standing, undropped, Rows, Tabled, Held, Total, Kept, past}
+use Rattle.peeling.specs.Peeling.{degree_of, queue_of, between, live, standing, undropped, Rows, Tabled, Held, Weighed, Total, Kept, past}
 use Rattle.peeling.proofs.Live.{live-suc, live-ext}
-use Rattle.peeling.proofs.Kept.{kept_back, tabled-kept}
+use Rattle.peeling.proofs.Kept.{kept_back, tabled-kept, whole-kept}
 
 -- the table of a graph holds rows
 pub tabled-rows : {g : Graph} {n m : ℕ} {w : List ℕ} → Tabled g n m w → Rows n m w
@@ -29,6 +29,11 @@ held_rows h = tabled-rows h.tabled
 -- which it holds still where the rows are kept
 pub held_kept : {n m : ℕ} {w w' : List ℕ} → Held n m w → Kept n m w w' → Held n m w'
 held_kept h k = record { graph = h.graph; tabled = tabled-kept h.tabled k }
+
+-- with the degrees of all its places
+pub weighed_kept : {n m : ℕ} {w w' t : List ℕ} → Weighed n m w t → Kept n m w w' → Weighed n m w' t
+weighed_kept o k =
+    record { held = held_kept o.held k; long = o.long; degrees = λ p l. o.degrees p l ∙ sym (whole-kept (held_rows o.held) k p l) }
 
 -- a place has the edges to R that its row has
 pub place-degree : {g : Graph} {n m : ℕ} {w : List ℕ} → Tabled g n m w → (R : Group) (p : ℕ) → p < 2 * n

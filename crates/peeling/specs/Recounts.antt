@@ -1,4 +1,4 @@
--- One side of the places counted anew, by those of the other side that have enough edges, when what the other side is short of is dropped
+-- One side of the places counted anew, by the edges to those of the other side that have enough, when what the other side is short of is dropped
 -- together.
 use Rattle.std.specs.Prelude.{ℕ, ◌+◌, ◌-◌, ◌*◌, ◌<◌, ◌≤◌, Bool, cond, List, ◌⊎◌, ◌≡◌, eqb, leb}
 use Rattle.graph.specs.Range.{sum, if}
@@ -31,6 +31,7 @@ pub record Passed (n m : ℕ) (w : List ℕ) (s₀ s : Peel) : Type 0 where
   pub tail : s.tail ≡ s₀.tail
   pub sources : s.sources ≡ s₀.sources
   pub targets : s.targets ≡ s₀.targets
+  pub excess : s.excess ≡ s₀.excess
   pub total : Total n m w s
 
 -- only degrees are changed
@@ -40,7 +41,7 @@ pub record Recounting (n m : ℕ) (w w' : List ℕ) : Type 0 where
 
 -- every place has room in 16 bits for its edges to a place
 pub record Roomy (n m : ℕ) (w : List ℕ) (place : ℕ) : Type 0 where
-  pub room : (p : ℕ) → p < 2 * n → 1 ≤ between n w place p → degree_of n m w p + between n w place p < 65536
+  pub room : (p : ℕ) → p < 2 * n → between n w place p ≤ 65535 - degree_of n m w p
 
 -- every place has gained its edges to a place, if the test holds
 pub record Gained (n m : ℕ) (place : ℕ) (test : Bool) (w w' : List ℕ) : Type 0 where

@@ -2,12 +2,14 @@
 // and as a target, and each is dropped by itself.
 // The lent table goes beside its scope, and what it holds is said at each call: a struct with both would have each call promise that it still holds
 // the same table. A place is what stands in a row or in the queue, an entry that is read.
-ghost use Rattle.std.specs.Prelude.{not, ◌&&◌, ◌||◌, ◌≡◌, ℕ, ◌+◌, ◌-◌, ◌*◌, ◌<◌, ◌≤◌, ltb, length};
+ghost use Rattle.std.specs.Prelude.{not, ◌&&◌, ◌||◌, true, ◌≡◌, ℕ, ◌+◌, ◌-◌, ◌*◌, ◌<◌, ◌≤◌, nat_le, nat_lt, eqb, ltb, length, get_or};
 ghost use Rattle.graph.specs.Cover as cover;
 ghost use Rattle.network.specs.File.{most_members};
 ghost use Rattle.network.specs.Refusals.{work_length};
-ghost use Rattle.peeling.specs.Peeling.{Rows, Held, Peeling, PeelBy, Dropping, Kept, Ended, Pushable, row_length, degree_of, queue_of, need_of, need_across, emptied, pushed, past, with_degree, with_queued, lowered_peel, lowered_table};
+ghost use Rattle.peeling.specs.Peeling.{Weighed, Peeling, PeelBy, Dropping, Kept, Ended, degree_of, queue_of, need_of, need_across, across, side_left, emptied, pushed_by, past, with_queued, falls as is_falling, lowered_table};
 
+use crate::entries::{place_in, weight_by};
+use crate::weights::{excess_of, sum_of};
 use crate::{Peel, Scope};
 use network::Extent;
 
@@ -66,104 +68,137 @@ pub fn put(work: &mut [u16], scope: Scope, tail: usize, place: usize)
     work[at] = place as u16;
 }
 
-// The degrees of all places in the whole graph: the lengths of their rows. Both ends of a row are entries of one list, so that the start of the next
-// is read by its index: `windows` zipped with the degrees would say the same twice.
-fn fill_degrees(work: &mut [u16], scope: Scope)
-    requires { Rows scope.extent.order scope.extent.size work.old }
+// The degrees of all places in the whole graph, from a table that has them.
+fn fill_degrees(work: &mut [u16], degrees: &[u16], scope: Scope)
+    requires long { work_length scope.extent.order scope.extent.size ≤ length work.old }
+    requires places { 2 * scope.extent.order ≤ length degrees.now }
     ensures kept { Kept scope.extent.order scope.extent.size work.old work.new }
-    ensures degrees { (p : ℕ) → p < 2 * scope.extent.order → degree_of scope.extent.order scope.extent.size work.new p ≡ row_length work.old p }
+    ensures degrees { (p : ℕ) → p < 2 * scope.extent.order → degree_of scope.extent.order scope.extent.size work.new p ≡ get_or degrees.now p 0 }
 {
-    let (starts, rest) = work.split_at_mut(scope.degrees_at());
-    for (place, degree) in rest[..2 * scope.extent.order].iter_mut().enumerate() {
-        *degree = starts[place + 1] - starts[place];
-    }
+    let places = 2 * scope.extent.order;
+    let at = scope.degrees_at();
+    work[at..at + places].copy_from_slice(&degrees[..places]);
+}
+
+// Whether a degree is at least `least`, and less than that without the weight, by one test: what is less than `least` wraps round to a great number.
+fn falls(degree: usize, least: usize, weight: usize) -> bool
+    requires { weight ≤ degree }
+    ensures { result ≡ (nat_le least degree && nat_lt degree (least + weight)) }
+{
+    degree.wrapping_sub(least) < weight
+}
+
+// The first place of the other side.
+fn across(order: usize, place: usize) -> usize
+    ensures { result ≡ across order place }
+{
+    if place < order { order } else { 0 }
+}
+
+// An edge of the place lost, of some weight: whether that makes the place, which needs `least`, short. It is put past the queue's tail in any case, so
+// that no step hangs on a test that cannot be foreseen. An edge of weight 0 makes none short, whatever `least` is.
+fn lower(
+    work: &mut [u16],
+    scope: Scope,
+    tail: usize,
+    least: usize,
+    place: usize,
+    weight: u16,
+) -> bool
+    requires long { work_length scope.extent.order scope.extent.size ≤ length work.old }
+    requires in_queue { tail ≤ 2 * scope.extent.order }
+    requires is_place { place < 2 * scope.extent.order }
+    requires has_edge { weight ≤ degree_of scope.extent.order scope.extent.size work.old place }
+    requires least { 1 ≤ weight → least ≡ need_of scope place }
+    ensures told { result ≡ is_falling (need_of scope place) (degree_of scope.extent.order scope.extent.size work.old place) (degree_of scope.extent.order scope.extent.size work.old place - weight) }
+    ensures table { work.new ≡ lowered_table scope.extent.order scope.extent.size work.old tail place weight }
+{
+    let at = scope.degrees_at() + place;
+    let degree = work[at];
+    work[at] = degree - weight;
+    put(work, scope, tail, place);
+    falls(usize::from(degree), least, usize::from(weight))
 }
 
 impl Peel {
-    // The peel of the whole graph before anything is asked of a place. The rows of the sources stand one after the other, and hold each edge once.
-    pub fn fresh(work: &mut [u16], scope: Scope) -> Peel
-        requires { Held scope.extent.order scope.extent.size work.old }
+    // The peel of the whole graph before anything is asked of a place. The degrees of the sources together count each edge once.
+    pub fn fresh(work: &mut [u16], degrees: &[u16], scope: Scope) -> Peel
+        requires { Weighed scope.extent.order scope.extent.size work.old degrees.now }
         ensures peeling { Peeling scope.extent.order scope.extent.size (cover.need scope.extent.order 0 0) work.new result }
         ensures head { result.head ≡ 0 }
         ensures kept { Kept scope.extent.order scope.extent.size work.old work.new }
     {
-        fill_degrees(work, scope);
+        fill_degrees(work, degrees, scope);
         let n = scope.extent.order;
-        let edges = usize::from(work[n] - work[0]);
+        let edges = sum_of(&degrees[..n]);
         Peel {
             head: 0,
             tail: 0,
             sources: n,
             targets: n,
             edges,
+            excess: excess_of(work, n, edges),
         }
     }
 
-    // The peel whose queue has the place, which stands at the tail already: one place more, and one less on the place's own side.
-    pub fn grown(self, order: usize, place: usize) -> Peel
+    // The peel whose queue has so many places of a side more, which stand past the tail already, and whose side has as many less. A side is told by its
+    // first place.
+    pub fn grown_by(self, order: usize, first: usize, count: usize) -> Peel
         requires order { order ≤ most_members }
-        requires pushable { Pushable order self place }
-        ensures { result ≡ pushed order self place }
+        requires queue { self.tail + count ≤ 2 * order }
+        requires side { count ≤ side_left order self first }
+        ensures { result ≡ pushed_by order self first count }
     {
         let longer = Peel {
-            tail: self.tail + 1,
+            tail: self.tail + count,
             ..self
         };
-        if place < order {
+        if first < order {
             Peel {
-                sources: self.sources - 1,
+                sources: self.sources - count,
                 ..longer
             }
         } else {
             Peel {
-                targets: self.targets - 1,
+                targets: self.targets - count,
                 ..longer
             }
         }
     }
 
-    // One edge of the place lost, and the place, which needs `least`, pushed where that makes it short.
-    fn lower(self, work: &mut [u16], scope: Scope, least: usize, place: usize) -> Peel
-        requires long { work_length scope.extent.order scope.extent.size ≤ length work.old }
-        requires is_place { place < 2 * scope.extent.order }
-        requires has_edge { 1 ≤ degree_of scope.extent.order scope.extent.size work.old place }
-        requires least { least ≡ need_of scope place }
-        requires pushable { degree_of scope.extent.order scope.extent.size work.old place ≡ need_of scope place → Pushable scope.extent.order self place }
-        ensures peel { result ≡ lowered_peel scope.extent.order scope.extent.size (need_of scope) work.old self place }
-        ensures table { work.new ≡ lowered_table scope.extent.order scope.extent.size (need_of scope) work.old self place }
-    {
-        let at = scope.degrees_at() + place;
-        let degree = work[at];
-        work[at] = degree - 1;
-        if usize::from(degree) == least {
-            put(work, scope, self.tail, place);
-            self.grown(scope.extent.order, place)
-        } else {
-            self
-        }
-    }
-
-    // Each place of the row of the place that the head has passed loses an edge. For an empty row, of which there are many, nothing is looked up.
-    // The row stands in the table that is written to, so its entries are read by their index.
+    // Each place of the row of the place that the head has passed loses its edge. For an empty row, of which there are many, nothing is looked up.
+    // The row stands in the table that is written to, so its entries are read by their index. All its places are of the other side, so the places
+    // pushed are counted.
     fn lower_row(self, work: &mut [u16], scope: Scope, place: usize) -> Peel
         requires { Dropping scope.extent.order scope.extent.size (need_of scope) work.old self place 0 }
         ensures peeling { PeelBy scope work.new result }
         ensures head { result.head ≡ self.head }
         ensures kept { Kept scope.extent.order scope.extent.size work.old work.new }
     {
-        let rows = 2 * scope.extent.order + 1;
+        let order = scope.extent.order;
+        let rows = 2 * order + 1;
         let start = rows + usize::from(work[place]);
         let end = rows + usize::from(work[place + 1]);
         if end <= start {
             return self;
         }
         let least = scope.need_across(place);
-        let mut peel = self;
+        let single = self.is_single();
+        let mut count = 0;
         for k in start..end {
-            let other = usize::from(work[k]);
-            peel = peel.lower(work, scope, least, other);
+            let entry = work[k];
+            let weight = weight_by(entry, single);
+            let fell = lower(
+                work,
+                scope,
+                self.tail + count,
+                least,
+                place_in(entry),
+                weight,
+            );
+            count += usize::from(fell);
         }
-        peel
+        self.grown_by(order, across(order, place), count)
     }
 
     // The place at the head.
@@ -232,6 +267,13 @@ impl Peel {
             peel = peel.drop_first(work, scope);
         }
         peel
+    }
+
+    // Whether every edge weighs 1.
+    pub fn is_single(self) -> bool
+        ensures { result ≡ eqb self.excess 0 }
+    {
+        self.excess == 0
     }
 
     // Whether a side has nobody left.

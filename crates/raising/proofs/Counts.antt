@@ -2,18 +2,15 @@
 -- side, so the degrees of the places that are counted by stay as they are.
 use Rattle.std.proofs.Common.{◌≡◌, ℕ, ◌+◌, ◌-◌, ◌*◌, ◌<◌, ◌≤◌, leb, List, sym, refl, ap, ◌∙◌, ⊎_elim, arith}
 use Rattle.graph.specs.Range.{sum, if}
-use Rattle.graph.specs.Graph.{Graph}
+use Rattle.graph.specs.Graph.{Graph, everyone}
 use Rattle.graph.proofs.Tests.{if-le, if-zero}
 use Rattle.graph.proofs.Sums.{sum-empty, sum-next, sum-ext, sum_mono, sum-front}
-use Rattle.network.specs.Small.{Small}
-use Rattle.peeling.specs.Peeling.{row_length, degree_of, between, live, Tabled}
+use Rattle.peeling.specs.Peeling.{degree_of, between, whole_degree, Tabled}
 use Rattle.peeling.specs.Recounts.{SideAt, OnSide, Cleared, Recounted, Roomy, Gained}
-use Rattle.peeling.proofs.Tables.{start-last}
 use Rattle.peeling.proofs.Kept.{between-kept, tabled-kept}
 use Rattle.peeling.proofs.Totals.{tabled-rows}
 use Rattle.peeling.proofs.Apart.{side-other, side-place, side-either, between-apart, degree-across}
 use Rattle.raising.proofs.Gains.{recounting-same, recounting-next}
-use Rattle.peeling.proofs.Whole.{row-degree}
 
 -- nothing is counted yet where the degrees of the other side are all set to 0
 pub recount-begins : {n m first least : ℕ} {w w' : List ℕ} → SideAt n first → Cleared n m first n w w' → Recounted n m first least 0 w' w'
@@ -27,14 +24,12 @@ recount-begins {n} {m} {first} {least} {w} {w'} s c =
     at : (p : ℕ) → OnSide n (n - first) p → n - first + (p - (n - first)) ≡ p
     at p o = omega arith
 
--- the edges of a place to all of the other side are the entries of its row
+-- the edges of a place to all of the other side are those to all places
 row-most : {g : Graph} {n m first : ℕ} {w : List ℕ} → Tabled g n m w → SideAt n first → {p : ℕ} → OnSide n (n - first) p
-    → sum (λ j. between n w (first + j) p) n ≡ row_length w p
-unfolding live
+    → sum (λ j. between n w (first + j) p) n ≡ whole_degree n w p
 row-most {n = n} {first = first} {w = w} t s {p} o =
     sum-ext n (λ j l. (tabled-rows t).symmetric (first + j) p (side-place s (omega arith, omega arith)) (side-place (side-other s) o))
-    ∙ sym (degree-across t s (live (λ i. 0) 0) p o)
-    ∙ row-degree (tabled-rows t) (λ i. 0) p (side-place (side-other s) o)
+    ∙ sym (degree-across t s everyone p o)
 
 module _ {g : Graph} {n m first least i : ℕ} {w₀ w : List ℕ} (t : Tabled g n m w₀) (s : SideAt n first) (l : i < n) (c : Recounted n m first least i w₀ w) where
   -- the next place is on this side
@@ -49,12 +44,12 @@ module _ {g : Graph} {n m first least i : ℕ} {w₀ w : List ℕ} (t : Tabled g
   was : (p : ℕ) → between n w (first + i) p ≡ between n w₀ (first + i) p
   was p = between-kept (tabled-rows t) c.recounting.kept (first + i) p (side-place s next-on)
 
-  -- what a place has gained, and gains from the next place, is not more than its row
-  pub recount-room : Small n m → Roomy n m w (first + i)
-  recount-room small =
-      record { room = λ p b some. ⊎_elim (λ o. absurd (omega (arith, between-apart holds s (first + i) p next-on o))) (room p b) (side-either s p b) }
+  -- what a place has gained, and gains from the next place, is not more than its degree in the whole graph
+  pub recount-room : Roomy n m w (first + i)
+  recount-room =
+      record { room = λ p b. ⊎_elim (λ o. omega (arith, between-apart holds s (first + i) p next-on o)) (room p b) (side-either s p b) }
     where
-      room : (p : ℕ) → p < 2 * n → OnSide n (n - first) p → degree_of n m w p + between n w (first + i) p < 65536
+      room : (p : ℕ) → p < 2 * n → OnSide n (n - first) p → between n w (first + i) p ≤ 65535 - degree_of n m w p
       room p b o =
           omega (
             arith,
@@ -64,8 +59,7 @@ module _ {g : Graph} {n m first least i : ℕ} {w₀ w : List ℕ} (t : Tabled g
             sum-next (λ j. between n w₀ (first + j) p) i,
             sum-front (λ j. between n w₀ (first + j) p) (i + 1) n (omega arith),
             row-most t s o,
-            start-last (tabled-rows t) (p + 1) (omega arith),
-            small.size,
+            (tabled-rows t).light p b,
           )
 
   -- and so counted by one place more

@@ -1,10 +1,10 @@
--- Degrees that are counted anew. With each entry of a row that is passed its place gains an edge, so that after the whole row each place has
--- gained its edges to the place of the row.
+-- Degrees that are counted anew. With each entry of a row that is passed its place gains the entry's weight, so that after the whole row each place
+-- has gained its edges to the place of the row.
 use Rattle.std.proofs.Common.{◌≡◌, ℕ, ◌+◌, ◌-◌, ◌*◌, ◌<◌, ◌≤◌, true, eqb, List, length, get_or, sym, refl, ap, ◌∙◌, arith}
 use Rattle.std.proofs.lemmas.Bool.Decides.{nat_tests}
 use Rattle.graph.specs.Range.{sum, if}
 use Rattle.graph.proofs.Tests.{if-same}
-use Rattle.peeling.specs.Peeling.{start_of, row_entry, degree_of, entries, between, Rows, with_degree}
+use Rattle.peeling.specs.Peeling.{start_of, row_entry, row_place, row_weight, place_in, weight_in, degree_of, entries, between, Rows, SingleRows, with_degree}
 use Rattle.peeling.specs.Recounts.{Recounting, Roomy, Gained}
 use Rattle.peeling.proofs.Tables.{with-degree-same, with-degree-other, with-degree-queue}
 use Rattle.peeling.proofs.Kept.{kept_same, kept_next, kept_set}
@@ -62,50 +62,63 @@ module _ {n m : ℕ} {w₀ : List ℕ} {place : ℕ} (r : Rows n m w₀) (i : pl
       pub gain-inside : k < length w
       gain-inside = omega (arith, along-inside r i g.along l, g.recounting.kept.same_length, r.long)
 
-      module _ {q : ℕ} (e : q ≡ get_or w k 0) where
-        -- its place is named by the row
-        is-entry : q ≡ row_entry n w₀ (start_of w₀ place + (k - k₀))
-        is-entry = e ∙ g.recounting.kept.index k (along-inside r i g.along l) ∙ ap (λ j. get_or w₀ j 0) (along-at r i g.along l)
+      -- which the row has
+      is-entry : get_or w k 0 ≡ row_entry n w₀ (start_of w₀ place + (k - k₀))
+      is-entry = g.recounting.kept.index k (along-inside r i g.along l) ∙ ap (λ j. get_or w₀ j 0) (along-at r i g.along l)
 
-        -- it is a place
+      -- and weighs 1 where every entry does
+      pub gain-single : SingleRows n w₀ → weight_in (get_or w k 0) ≡ 1
+      gain-single h = rw is-entry (h place (k - k₀) i (along-entry r i g.along l))
+
+      -- its place is q, and its weight b
+      module _ {q b : ℕ} (x : q ≡ place_in (get_or w k 0)) (y : b ≡ weight_in (get_or w k 0)) where
+        is-place : q ≡ row_place n w₀ (start_of w₀ place + (k - k₀))
+        is-place = x ∙ ap place_in is-entry
+
+        is-weight : b ≡ row_weight n w₀ (start_of w₀ place + (k - k₀))
+        is-weight = y ∙ ap weight_in is-entry
+
+        -- q is a place
         pub gain-place : q < 2 * n
-        gain-place = rw is-entry (r.inside place (k - k₀) i (along-entry r i g.along l))
+        gain-place = rw is-place (r.inside place (k - k₀) i (along-entry r i g.along l))
 
-        -- that has an edge more to gain
-        gain-more : entries n w₀ place (k - k₀) q + 1 ≤ between n w₀ place q
+        -- that has an edge of that weight more to gain
+        gain-more : entries n w₀ place (k - k₀) q + b ≤ between n w₀ place q
         gain-more =
             omega (
               arith,
               entries-part n w₀ place (k - k₀ + 1) q (omega (arith, along-entry r i g.along l)),
               entries-suc n w₀ place (k - k₀) q,
-              if-same _ q 1 (sym is-entry),
+              if-same (row_place n w₀ (start_of w₀ place + (k - k₀))) q (row_weight n w₀ (start_of w₀ place + (k - k₀))) (sym is-place),
+              is-weight,
             )
 
         -- for which there is room
-        pub gain-room : Roomy n m w₀ place → degree_of n m w q < 65535
-        gain-room fits = omega (arith, fits.room q gain-place (omega (arith, gain-more)), g.degrees q gain-place, gain-more)
+        pub gain-room : Roomy n m w₀ place → b ≤ 65535 - degree_of n m w q
+        gain-room fits = omega (arith, fits.room q gain-place, g.degrees q gain-place, gain-more)
 
         -- when it has gained it one entry more is passed
-        pub gain-next : {w' : List ℕ} → w' ≡ with_degree n m w q (degree_of n m w q + 1) → Gaining n m w₀ place k₀ end w' (k + 1)
+        pub gain-next : {w' : List ℕ} → w' ≡ with_degree n m w q (degree_of n m w q + b) → Gaining n m w₀ place k₀ end w' (k + 1)
         gain-next {w'} u =
             record {
               along = along-next r i g.along l;
               recounting = recounting-next g.recounting (rw u (recounting-set n m w q _ gain-place));
-              degrees = λ p b. omega (
+              degrees = λ p c. omega (
                 arith,
-                g.degrees p b,
+                g.degrees p c,
                 gained p,
                 entries-suc n w₀ place (k - k₀) p,
-                ap (λ c. if (eqb c p) 1) is-entry,
-                ap (λ c. entries n w₀ place c p) (along-more k k₀ g.along.begun),
+                ap (λ d. if (eqb d p) b) is-place,
+                ap (λ d. if (eqb (row_place n w₀ (start_of w₀ place + (k - k₀))) p) d) is-weight,
+                ap (λ d. entries n w₀ place d p) (along-more k k₀ g.along.begun),
               );
             }
           where
-            gained : (p : ℕ) → degree_of n m w' p ≡ degree_of n m w p + if (eqb q p) 1
+            gained : (p : ℕ) → degree_of n m w' p ≡ degree_of n m w p + if (eqb q p) b
             gained p =
                 rw u (grind (
                   arith,
                   nat_tests,
-                  with-degree-same n m w q (degree_of n m w q + 1) (omega (arith, gain-place, r.long, g.recounting.kept.same_length)),
-                  with-degree-other n m w q (degree_of n m w q + 1) p,
+                  with-degree-same n m w q (degree_of n m w q + b) (omega (arith, gain-place, r.long, g.recounting.kept.same_length)),
+                  with-degree-other n m w q (degree_of n m w q + b) p,
                 ))

@@ -1,18 +1,22 @@
 -- A peel while what places need is raised, one place after the other: a place whose degree is not enough any more is pushed.
-use Rattle.std.proofs.Common.{◌≡◌, ℕ, ◌+◌, ◌*◌, ◌<◌, ◌≤◌, true, false, ◌&&◌, ltb, leb, ◌⊎◌, List, sym, refl, ◌∙◌, le_refl, ne_of_lt, arith}
+use Rattle.std.proofs.Common.{◌≡◌, Bool, ℕ, zero, suc, ◌+◌, ◌-◌, ◌*◌, ◌<◌, ◌≤◌, true, false, ◌&&◌, ltb, leb, ◌⊎◌, List, sym, refl, ◌∙◌, le_refl, add-zero, arith}
 use Rattle.std.proofs.lemmas.Bool.Decides.{nat_tests}
+use Rattle.std.specs.Int.{from_bool}
+use mathlib.Core.Bool.{and-false}
+use native.Mathlib.Decide.{dec_le}
+use borrow.Author.Tests.{le-ltb, lt-leb}
 use Rattle.graph.specs.Cover.{need}
 use Rattle.peeling.specs.declared.Peel.{Peel}
 use Rattle.peeling.specs.declared.Scope.{Scope}
-use Rattle.peeling.specs.Peeling.{need_of, degree_of, queue_of, Peeling, Kept, Pushable, raised, pushed, with_queued}
+use Rattle.peeling.specs.Peeling.{need_of, degree_of, queue_of, Peeling, Kept, Pushable, raised, side_left, pushed_by, pushed, with_queued}
 use Rattle.peeling.specs.Recounts.{SideAt, OnSide}
-use Rattle.peeling.proofs.Queues.{queue-most}
-use Rattle.peeling.proofs.Tables.{with-queued-other, with-queued-degree}
-use Rattle.peeling.proofs.Kept.{kept_same, kept_set, degree-kept}
+use Rattle.peeling.proofs.Tables.{with-queued-degree}
+use Rattle.peeling.proofs.Kept.{kept_same, degree-kept}
 use Rattle.peeling.proofs.Totals.{total_kept}
-use Rattle.peeling.proofs.Pushes.{Step, queued-room, queued-stays, queued-grows, full-keeps, full-queue, full-undropped}
+use Rattle.peeling.proofs.Grown.{pushed-none, pushed-one, left-one}
+use Rattle.peeling.proofs.Pushes.{Step, step-put, queued-room, queued-stays, queued-grows, full-keeps, full-queue, full-undropped}
 use Rattle.raising.specs.declared.Step.{Step as Raised}
-use Rattle.raising.specs.Steps.{next_of, Raising}
+use Rattle.raising.specs.Steps.{next_of, outgrown, Quiet, Raising, RaisedBy}
 
 -- places that need the same are short alike
 peel-needs : {n m : ℕ} {need need' : ℕ → ℕ} {w : List ℕ} {s : Peel} → ((p : ℕ) → p < 2 * n → need p ≡ need' p) → Peeling n m need w s → Peeling n m need' w s
@@ -23,24 +27,20 @@ peel-needs {w = w} e k =
       total = k.total;
     }
 
--- a place that is put past the queue's tail keeps the rows
-pub put_keeps : {n m : ℕ} {need : ℕ → ℕ} {w : List ℕ} {s : Peel} (q : ℕ) → Peeling n m need w s → Kept n m w (with_queued n m w s.tail q)
-put_keeps {n} {m} {w = w} {s} q k = kept_set n m w (4 * n + 1 + 2 * m + s.tail) q (omega arith) (omega (arith, queue-most k.queued.queue))
-
--- and is no part of the queue
+-- a place that is put past the queue's tail is no part of the queue
 peel-put : {n m : ℕ} {need : ℕ → ℕ} {w : List ℕ} {s : Peel} (q : ℕ) → Peeling n m need w s → Peeling n m need (with_queued n m w s.tail q) s
 peel-put {n} {m} {need} {w} {s} q k =
     record {
-      queued = queued-stays record { queued = k.queued; kept = put_keeps q k; more = λ p b. le_refl _; same = same } (λ p b. rw (with-queued-degree n m w s.tail q p b));
-      degrees = λ p b. with-queued-degree n m w s.tail q p b ∙ k.degrees p b ∙ degree-kept k.queued.rows (put_keeps q k) s.head p before b;
-      total = total_kept k.total (put_keeps q k) before refl refl;
+      queued = queued-stays put (λ p b. rw (with-queued-degree n m w s.tail q p b));
+      degrees = λ p b. with-queued-degree n m w s.tail q p b ∙ k.degrees p b ∙ degree-kept k.queued.rows put.kept s.head p before b;
+      total = total_kept k.total put.kept before refl refl;
     }
   where
-    same : (i : ℕ) → i < s.tail → queue_of n m w i ≡ queue_of n m (with_queued n m w s.tail q) i
-    same i b = sym (with-queued-other n m w s.tail q i (ne_of_lt b))
+    put : Step n m need need w (with_queued n m w s.tail q) s
+    put = step-put (record { queued = k.queued; kept = kept_same w; more = λ p b. le_refl _; same = λ j b. refl }) q
 
     before : (i : ℕ) → i < s.head → queue_of n m w i ≡ queue_of n m (with_queued n m w s.tail q) i
-    before i b = same i (omega (arith, k.queued.waiting))
+    before i b = put.same i (omega (arith, k.queued.waiting))
 
 -- greater numbers are needed of greater x and y
 pub need-more : (n : ℕ) {x y x' y' : ℕ} → x ≤ x' → y ≤ y' → (p : ℕ) → need n x y p ≤ need n x' y' p
@@ -114,6 +114,30 @@ module _ {n m : ℕ} (old new : ℕ → ℕ) {w : List ℕ} {s : Peel} (i : ℕ)
           total = total_kept k.total raise-keeps (λ j b. full-queue step i l was-enough j (omega (arith, k.queued.waiting))) refl refl;
         }
 
+-- so are d places in a row
+pub raise-quiet : {n m : ℕ} (old new : ℕ → ℕ) {w : List ℕ} {s : Peel} (i d j : ℕ) → j ≡ i + d → j ≤ 2 * n → ((p : ℕ) → old p ≤ new p)
+    → ((p : ℕ) → i ≤ p → p < j → (leb (old p) (degree_of n m w p) && ltb (degree_of n m w p) (new p)) ≡ false)
+    → Peeling n m (raised old new i) w s → Peeling n m (raised old new j) w s
+raise-quiet old new {w} {s} i zero j e b more quiet k = rw (last) k
+  where
+    last : j ≡ i
+    last = omega (arith, e)
+raise-quiet old new {w} {s} i (suc d) j e b more quiet k =
+    rw next (raise-left old new (i + d) (omega (arith, e, b)) (more (i + d))
+    (raise-quiet old new i d (i + d) refl (omega (arith, e, b)) more (λ p l h. quiet p l (omega (arith, e, h))) k)
+    (quiet (i + d) (omega arith) (omega (arith, e))))
+  where
+    next : j ≡ i + d + 1
+    next = omega (arith, e)
+
+-- a degree that is past what was needed, where it is, by no less than what is needed rises, is not enough before and too small after
+pub past-both : (more nearest : ℕ) {old new degree : ℕ} → old < new → more ≡ new - old → more ≤ nearest → (old ≤ degree → nearest ≤ degree - old)
+    → (leb old degree && ltb degree new) ≡ false
+past-both more nearest {old} {new} {degree} r e l near = elim (dec_le old degree) [
+  | yes h ↦ rw (le-ltb degree new (omega (arith, r, e, l, near h))) (and-false _)
+  | no h ↦ rw (lt-leb old degree (omega (arith, h))) refl
+]
+
 -- a step raises the needs of one scope to those of another
 module _ (t : Raised) where
   abbrev c : Scope
@@ -122,9 +146,24 @@ module _ (t : Raised) where
   abbrev d : Scope
   d = next_of t
 
+  -- where none of some places of a side falls short, none is pushed
+  pub raise-block : {first i j : ℕ} {w : List ℕ} {s : Peel} → SideAt c.extent.order first → first ≤ i → i ≤ j → j ≤ first + c.extent.order → Quiet t first i j w
+      → Raising t i w s → Raising t j w s
+  raise-block {first} {i} {j} {w} side l m h quiet =
+      raise-quiet _ _ i (j - i) j (omega (arith, m)) (omega (arith, h, side-ends side)) (need-more c.extent.order t.more.0 t.more.1)
+      (λ p a b. none p (omega (arith, l, a)) (omega (arith, h, b)) (quiet p a b))
+    where
+      none : (p : ℕ) → first ≤ p → p < first + c.extent.order → outgrown t first (degree_of c.extent.order c.extent.size w p) ≡ false
+          → (leb (need_of c p) (degree_of c.extent.order c.extent.size w p) && ltb (degree_of c.extent.order c.extent.size w p) (need_of d p)) ≡ false
+      none p a b = rw (need-side c.extent.order c.x c.y side a b, need-side c.extent.order d.x d.y side a b) (λ q. q)
+
+  -- so many places of a side are in the queue before the first of some is looked at
+  pub raised-begins : (first : ℕ) {i : ℕ} {w : List ℕ} {s : Peel} → Raising t i w s → RaisedBy t first i w s 0
+  raised-begins first {s = s} k = record { peeling = rw (pushed-none c.extent.order first s) k; few = omega arith }
+
   -- A place of the side that begins at first, which needs what the first one needs. Its degree is g.
-  module _ {first i g : ℕ} {w : List ℕ} {s : Peel} (side : SideAt c.extent.order first) (o : OnSide c.extent.order first i)
-      (k : Raising t i w s) (q : g ≡ degree_of c.extent.order c.extent.size w i) where
+  module _ {first i g count : ℕ} {w : List ℕ} {s : Peel} (side : SideAt c.extent.order first) (o : OnSide c.extent.order first i)
+      (k : RaisedBy t first i w s count) (q : g ≡ degree_of c.extent.order c.extent.size w i) where
     -- it is one of the 2n
     inside : i < 2 * c.extent.order
     inside = omega (arith, side-ends side)
@@ -139,9 +178,8 @@ module _ (t : Raised) where
     test = rw (q, need-side c.extent.order c.x c.y side o.0 o.1, need-side c.extent.order d.x d.y side o.0 o.1)
 
     -- where it does not hold the place is no part of the queue, though it was put past the tail
-    pub raise-passes : (leb (need_of c first) g && ltb g (need_of d first)) ≡ false
-        → Raising t (i + 1) (with_queued c.extent.order c.extent.size w s.tail i) s
-    raise-passes h = peel-put i (raise-left _ _ i inside more k (sym test ∙ h))
+    passes : (leb (need_of c first) g && ltb g (need_of d first)) ≡ false → RaisedBy t first (i + 1) (with_queued c.extent.order c.extent.size w (s.tail + count) i) s count
+    passes h = record { peeling = peel-put i (raise-left _ _ i inside more k.peeling (sym test ∙ h)); few = k.few }
 
     module _ (h : (leb (need_of c first) g && ltb g (need_of d first)) ≡ true) where
       -- where it holds the degree was enough
@@ -152,12 +190,20 @@ module _ (t : Raised) where
       less : degree_of c.extent.order c.extent.size w i < need_of d i
       less = grind (arith, nat_tests, test)
 
-      -- so there is room, as for the first place of the side
-      pub raise-pushable : Pushable c.extent.order s first
-      raise-pushable =
-          let room = raise-room _ _ i inside more k enough less in
-          record { tail = room.tail; side = rw (side-alike side o.0 o.1) room.side }
+      -- so the side has one more to take
+      room : 1 ≤ side_left c.extent.order (pushed_by c.extent.order s first count) first
+      room = rw (sym (side-alike side o.0 o.1)) at (raise-room _ _ i inside more k.peeling enough less).side
 
       -- and the place is pushed
-      pub raise-grows : Raising t (i + 1) (with_queued c.extent.order c.extent.size w s.tail i) (pushed c.extent.order s first)
-      raise-grows = rw (side-alike side o.0 o.1) (raise-pushes _ _ i inside more k enough less)
+      grows : RaisedBy t first (i + 1) (with_queued c.extent.order c.extent.size w (s.tail + count) i) s (count + 1)
+      grows =
+          record {
+            peeling = rw (sym (side-alike side o.0 o.1), pushed-one c.extent.order first count s) at (raise-pushes _ _ i inside more k.peeling enough less);
+            few = left-one c.extent.order first count s k.few room;
+          }
+
+    -- so one more is pushed where the test holds
+    pub raised-next : (b : Bool) → b ≡ (leb (need_of c first) g && ltb g (need_of d first))
+        → RaisedBy t first (i + 1) (with_queued c.extent.order c.extent.size w (s.tail + count) i) s (count + from_bool b)
+    raised-next true e = grows (sym e)
+    raised-next false e = rw (add-zero count) (passes (sym e))

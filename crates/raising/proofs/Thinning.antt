@@ -64,6 +64,7 @@ module _ {c : Scope} {first : ℕ} {w : List ℕ} {s : Peel} (o : OneSided c fir
           tail = d.tail;
           sources = d.sources;
           targets = d.targets;
+          excess = d.excess;
           total = total-drops d.total waiting-place stands exact;
         }
 
@@ -75,6 +76,7 @@ module _ {c : Scope} {first : ℕ} {w : List ℕ} {s : Peel} (o : OneSided c fir
     queued =
         record {
           rows = k.queued.rows;
+          single = λ h. k.queued.single (sym d.excess ∙ h);
           waiting = d.within;
           queue = rw d.tail k.queued.queue;
           sizes = record { sources = d.sources ∙ rw d.tail k.queued.sizes.sources; targets = d.targets ∙ rw d.tail k.queued.sizes.targets };

@@ -2,13 +2,17 @@
 // The lent table goes beside what is asked of it, and what it holds is said at each call: a struct with both would have each call promise that it
 // still holds the same table.
 // A peel is passed by value and handed back, and a side is told by its first place, from which its places run.
-ghost use Rattle.std.specs.Prelude.{◌≡◌, ◌+◌, ◌<◌, ◌≤◌, ◌&&◌, nat_le, nat_lt};
-ghost use Rattle.peeling.specs.Peeling.{Held, PeelBy, Kept, Ended};
+ghost use Rattle.std.specs.Prelude.{◌≡◌, ◌+◌, ◌*◌, ◌<◌, ◌≤◌, true, ◌&&◌, nat_le, nat_lt, length};
+ghost use Rattle.network.specs.Refusals.{work_length};
+ghost use Rattle.peeling.specs.Peeling.{need_of, Weighed, PeelBy, Kept, Ended};
 ghost use Rattle.peeling.specs.Recounts.{SideAt, OnSide};
-ghost use Rattle.raising.specs.Steps.{next_of, Raising};
+ghost use Rattle.raising.specs.Steps.{next_of, Quiet, Raising, RaisedBy};
 
 use crate::Step;
 use peeling::{Peel, Scope, put};
+
+// So many places are passed over at once where none of them becomes short.
+const BLOCK: usize = 32;
 
 impl Step {
     // From nothing to what a scope asks.
@@ -40,30 +44,102 @@ fn is_between(least: usize, degree: usize, end: usize) -> bool
     degree.wrapping_sub(least) < end - least
 }
 
-// The place pushed where its degree is enough before the step, and not after it. It needs what the first place of its side needs, which stays
-// the same from place to place. It is put past the tail in any case, so that no step hangs on a test that cannot be foreseen.
-#[tactic(auto, using(crate::proofs::Raises::put_keeps))]
-fn raise(peel: Peel, work: &mut [u16], step: Step, first: usize, place: usize) -> Peel
+// How many places are pushed with this one, after `count` of its side: it is where its degree is enough before the step, and not after it. It needs
+// what the first place of its side needs, which stays the same from place to place. It is put past the tail in any case, so that no step hangs on a
+// test that cannot be foreseen.
+fn raise(
+    start: Peel,
+    count: usize,
+    work: &mut [u16],
+    step: Step,
+    first: usize,
+    place: usize,
+) -> usize
     requires side { SideAt step.scope.extent.order first }
     requires on_side { OnSide step.scope.extent.order first place }
-    requires peeling { Raising step place work.old peel }
-    ensures peeling { Raising step (place + 1) work.new result }
-    ensures head { result.head ≡ peel.head }
+    requires peeling { RaisedBy step first place work.old start count }
+    ensures peeling { RaisedBy step first (place + 1) work.new start result }
     ensures kept { Kept step.scope.extent.order step.scope.extent.size work.old work.new }
 {
     let scope = step.scope;
     let at = scope.degrees_at() + place;
     let degree = usize::from(work[at]);
-    put(work, scope, peel.tail, place);
-    if is_between(scope.need(first), degree, step.next().need(first)) {
-        peel.grown(scope.extent.order, first)
-    } else {
-        peel
-    }
+    put(work, scope, start.tail + count, place);
+    count + usize::from(is_between(scope.need(first), degree, step.next().need(first)))
 }
 
-// Every place of one side, the sources from 0 on or the targets from n on, pushed whose degree is enough before the step, and not after it.
-// Where the side needs what it needed, there is none, and no place is looked at.
+// Whether none of these places of a side has a degree that is enough before the step, and not after it. That is told by one number, the least by which
+// a degree is past what was needed, where one that was not enough wraps round to a great number as in `is_between`; in 16 bits, so that many degrees
+// can be looked at together.
+fn is_quiet(work: &[u16], step: Step, first: usize, from: usize, to: usize) -> bool
+    requires long { work_length step.scope.extent.order step.scope.extent.size ≤ length work.now }
+    requires places { to ≤ 2 * step.scope.extent.order }
+    requires raised { need_of step.scope first < need_of (next_of step) first }
+    ensures { result ≡ true → Quiet step first from to work.now }
+{
+    let at = step.scope.degrees_at();
+    let need = step.scope.need(first);
+    let Ok(least) = u16::try_from(need) else {
+        return false;
+    };
+    let Ok(more) = u16::try_from(step.next().need(first) - need) else {
+        return false;
+    };
+    let mut nearest = u16::MAX;
+    for place in from..to {
+        nearest = nearest.min(work[at + place].wrapping_sub(least));
+    }
+    more <= nearest
+}
+
+// These places of a side, pushed whose degree is enough before the step, and not after it. They are counted, so that the loop has one number.
+fn raise_places(
+    start: Peel,
+    work: &mut [u16],
+    step: Step,
+    first: usize,
+    from: usize,
+    to: usize,
+) -> Peel
+    requires side { SideAt step.scope.extent.order first }
+    requires places { (first ≤ from) × (from ≤ to) × (to ≤ first + step.scope.extent.order) }
+    requires peeling { Raising step from work.old start }
+    ensures peeling { Raising step to work.new result }
+    ensures head { result.head ≡ start.head }
+    ensures kept { Kept step.scope.extent.order step.scope.extent.size work.old work.new }
+{
+    let mut count = 0;
+    for place in from..to {
+        count = raise(start, count, work, step, first, place);
+    }
+    start.grown_by(step.scope.extent.order, first, count)
+}
+
+// Every place of one side, block by block; a block is passed over where none of its places is pushed.
+fn raise_blocks(start: Peel, work: &mut [u16], step: Step, first: usize) -> Peel
+    requires side { SideAt step.scope.extent.order first }
+    requires raised { need_of step.scope first < need_of (next_of step) first }
+    requires peeling { Raising step first work.old start }
+    ensures peeling { Raising step (first + step.scope.extent.order) work.new result }
+    ensures head { result.head ≡ start.head }
+    ensures kept { Kept step.scope.extent.order step.scope.extent.size work.old work.new }
+{
+    let end = first + step.scope.extent.order;
+    let mut peel = start;
+    let mut place = first;
+    while place < end {
+        let to = end.min(place + BLOCK);
+        if !is_quiet(work, step, first, place, to) {
+            peel = raise_places(peel, work, step, first, place, to);
+        }
+        place = to;
+    }
+    peel
+}
+
+// Every place of one side, the sources from 0 on or the targets from n on, pushed whose degree is enough before the step, and not after it. Where
+// the side needs what it needed there is none, and no place is looked at. Blocks are passed over where weights make the steps small: at the first step,
+// from nothing, and where each edge weighs 1, most blocks have such a place.
 fn raise_side(start: Peel, work: &mut [u16], step: Step, first: usize) -> Peel
     requires side { SideAt step.scope.extent.order first }
     requires peeling { Raising step first work.old start }
@@ -71,14 +147,21 @@ fn raise_side(start: Peel, work: &mut [u16], step: Step, first: usize) -> Peel
     ensures head { result.head ≡ start.head }
     ensures kept { Kept step.scope.extent.order step.scope.extent.size work.old work.new }
 {
-    if step.scope.need(first) == step.next().need(first) {
+    let need = step.scope.need(first);
+    if need == step.next().need(first) {
         return start;
     }
-    let mut peel = start;
-    for place in first..first + step.scope.extent.order {
-        peel = raise(peel, work, step, first, place);
+    if need == 0 || start.is_single() {
+        return raise_places(
+            start,
+            work,
+            step,
+            first,
+            first,
+            first + step.scope.extent.order,
+        );
     }
-    peel
+    raise_blocks(start, work, step, first)
 }
 
 // Every place pushed whose degree is enough before the step, and not after it.
@@ -101,10 +184,10 @@ pub fn advance(peel: Peel, work: &mut [u16], step: Step, drain: bool) -> Peel
 }
 
 // The peel of the whole graph for a scope, run to its end.
-pub fn whole(work: &mut [u16], scope: Scope, drain: bool) -> Peel
-    requires { Held scope.extent.order scope.extent.size work.old }
+pub fn whole(work: &mut [u16], degrees: &[u16], scope: Scope, drain: bool) -> Peel
+    requires { Weighed scope.extent.order scope.extent.size work.old degrees.now }
     ensures { Ended drain scope work.old work.new result }
 {
-    let fresh = Peel::fresh(work, scope);
+    let fresh = Peel::fresh(work, degrees, scope);
     advance(fresh, work, Step::up_to(scope), drain)
 }

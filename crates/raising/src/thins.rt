@@ -2,7 +2,7 @@
 // the degrees of the other side are counted anew by the places that are left, which are few where much is asked.
 // The table goes beside its scope, and a peel is handed back, as in `needs`. A side is told by its first place, from which its places run.
 ghost use Rattle.std.specs.Prelude.{◌≡◌, ℕ, false};
-ghost use Rattle.peeling.specs.Peeling.{Held, PeelBy, Kept, Ended};
+ghost use Rattle.peeling.specs.Peeling.{Weighed, PeelBy, Kept, Ended};
 ghost use Rattle.peeling.specs.Recounts.{SideAt, OneSided, Passed, of_side};
 
 use crate::Step;
@@ -44,7 +44,7 @@ fn thin(start: Peel, work: &mut [u16], scope: Scope, first: usize) -> Peel
     ensures kept { Kept scope.extent.order scope.extent.size work.old work.new }
 {
     let peel = drop_waiting(start, work, scope);
-    recount(work, scope, first, scope.need(first));
+    recount(work, scope, first, scope.need(first), start.is_single());
     peel
 }
 
@@ -59,13 +59,13 @@ fn first_of(order: usize, side: Side) -> usize
 }
 
 // The peel of the whole graph for a scope, run until no place is short or a side is empty. It begins with the side.
-pub fn whole_from(work: &mut [u16], scope: Scope, side: Side) -> Peel
-    requires { Held scope.extent.order scope.extent.size work.old }
+pub fn whole_from(work: &mut [u16], degrees: &[u16], scope: Scope, side: Side) -> Peel
+    requires { Weighed scope.extent.order scope.extent.size work.old degrees.now }
     ensures { Ended false scope work.old work.new result }
 {
     let first = first_of(scope.extent.order, side);
     let half = of_side(scope, first);
-    let fresh = Peel::fresh(work, scope);
+    let fresh = Peel::fresh(work, degrees, scope);
     let tight = tighten(fresh, work, Step::up_to(half));
     let thinned = thin(tight, work, half, first);
     let rest = Step {

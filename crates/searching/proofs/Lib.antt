@@ -2,4 +2,5 @@ pub mod Starts
 pub mod Comparing
 pub mod Lines
 pub mod Turns
+pub mod Corners
 pub mod Rings

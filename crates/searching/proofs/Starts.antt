@@ -1,11 +1,13 @@
 -- Where a row or column begins to be better than the best: at the last place whose product is not above that of the best, where the best does not
--- come before the pair there, and else at the next.
-use Prim.Native.Nat.{ℕ, suc, ◌+◌, ◌*◌, ◌/◌, ◌<◌, ◌≤◌}
+-- come before the pair there, and else at the next. It begins no earlier for a better one.
+use Prim.Native.Nat.{ℕ, suc, ◌+◌, ◌-◌, ◌*◌, ◌/◌, ◌<◌, ◌≤◌}
 use mathlib.Core.Logic.{⊎_elim}
 use mathlib.Core.Path.{◌≡◌, refl}
+use native.Mathlib.Decide.{dec_lt}
 use native.Mathlib.Nat.{mul_comm, mul-le-mul, mul-le-mul_left, eq-or-lt_of_le, div-mul-le_self, div-lt_iff_lt-mul, lt-suc_self, eq-zero-or-pos}
 use native.Mathlib.Omega.{arith}
 use Rattle.graph.specs.Core.{Before}
+use Rattle.graph.proofs.Before.{before-trans}
 use Rattle.network.specs.declared.Side.{Side}
 use Rattle.network.specs.declared.Side.TheVariants.{Source, Target}
 use Rattle.searching.specs.declared.Best.{Best}
@@ -57,3 +59,11 @@ module _ (side : Side) (fixed q : ℕ) (b : Best) (f : 1 ≤ fixed) (last : (q *
         low = λ j i. let k : j ≤ q = omega arith in ⊎_elim (λ t. rw t same) (low j) (eq-or-lt_of_le k);
         high = λ j i. high j (omega arith);
       }
+
+-- a row or column begins past each place that the best comes before,
+pub start-past : {side : Side} {fixed : ℕ} {b : Best} {s : ℕ} → FirstBetter side fixed b s → (j : ℕ) → Before b.x b.y (x_at side fixed j) (y_at side fixed j) → j < s
+start-past {s = s} f j h = elim (dec_lt j s) [ yes l ↦ l | no l ↦ absurd (f.high j (omega arith) h) ]
+
+-- and so no earlier for a better one
+pub start-rises : {side : Side} {fixed : ℕ} {b r : Best} {s s' : ℕ} → FirstBetter side fixed b s → FirstBetter side fixed r s' → Before r.x r.y b.x b.y → s ≤ s'
+start-rises {s = s} f f' t = omega (arith, f.positive, start-past f' (s - 1) (before-trans t (f.low (s - 1) (omega (arith, f.positive)))))

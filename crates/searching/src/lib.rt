@@ -3,6 +3,7 @@
 
 ghost use Rattle.std.specs.Prelude.{◌<◌, ◌≤◌};
 
+mod blocks;
 mod searches;
 
 use network::{Side, Totals};
@@ -20,6 +21,13 @@ struct Line {
 pub struct Best {
     pub x: usize,
     pub y: usize,
+}
+
+// How far the rows or columns are tried from the last one down: those above `left` are, and this is the best then.
+#[derive(Clone, Copy, Debug, PartialEq, Eq)]
+struct Tried {
+    left: usize,
+    best: Best,
 }
 
 // 01: what the finding returns beside its groups.

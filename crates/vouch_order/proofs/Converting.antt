@@ -8,10 +8,11 @@ use lib.ListN.{length, drop, length-append}
 use Rattle.std.specs.Prelude.{Option, None, Some, Result, Ok, Err}
 use Rattle.std.proofs.lemmas.Option.{none-some, same_Some}
 use Rattle.network.specs.declared.Refusal.{Refusal}
-use Rattle.network.specs.File.{most_links, link_at, graph_of, old_refusal}
-use Rattle.network.specs.Bytes.{written}
+use Rattle.network.specs.File.{most_links, version_of, stride_of, link_at, kind_at, graph_of, file_length, old_refusal}
+use Rattle.network.specs.Bytes.{ordered}
 use Rattle.network.specs.Refusals.{order_refusal}
-use Rattle.network.proofs.Accepted.{old-accepted}
+use Rattle.network.proofs.Versions.{stride-four}
+use Rattle.network.proofs.Accepted.{old-accepted, old-version}
 use Rattle.network.proofs.Answers.{call-err, call-ok}
 use Rattle.network.proofs.Written.{length-written}
 use Rattle.calls.specs.Calls.{Rewritten, OrderCall}
@@ -19,15 +20,19 @@ use Rattle.calls.proofs.Writer.{out-first, out_none, read_again}
 use Rattle.report.specs.Text.{refusal_text, Begins, Rendered}
 use Rattle.vouch_order.specs.Converted.{Converts}
 
--- where the output holds the largest file the conversion is refused by the old rule alone
-order-full : (f : List ℕ) (o : ℕ) → link_at most_links ≤ o → order_refusal f o ≡ old_refusal f
+-- a file that the old rule takes is of version 1, and has four bytes a link,
+old-four : (f : List ℕ) → old_refusal f ≡ None → stride_of f ≡ 4
+old-four f e = stride-four (omega (arith, old-version f e))
+
+-- and where the output holds the largest such file the conversion is refused by the old rule alone
+order-full : (f : List ℕ) (o : ℕ) → link_at 4 most_links ≤ o → order_refusal f o ≡ old_refusal f
 order-full f o l = go (old_refusal f) refl
   where
     go : (r : Option Refusal) → old_refusal f ≡ r → order_refusal f o ≡ old_refusal f
-    go (Some q) e = out-first (graph_of f).size o e ∙ sym e
-    go None e = out_none _ o e (omega (arith, l, ((old-accepted f).0 e).sound.header.size-most)) ∙ sym e
+    go (Some q) e = out-first (file_length f) o e ∙ sym e
+    go None e = out_none _ o e (rw (old-four f e) (omega (arith, l, ((old-accepted f).0 e).0.sound.header.size-most))) ∙ sym e
 
-module _ {f before middle : List ℕ} {a : Result ℕ Refusal} (l : link_at most_links ≤ length before) (c : OrderCall f before middle a) where
+module _ {f before middle : List ℕ} {a : Result ℕ Refusal} (l : link_at 4 most_links ≤ length before) (c : OrderCall f before middle a) where
   -- a refused conversion: its line is printed
   pub converted-refused : {after : List ℕ} {r : ℕ} (q : Refusal) → a ≡ Err q → Begins middle (refusal_text q) after r → Rendered (Converts f) before after r
   converted-refused {after} {r} q i b =
@@ -46,18 +51,18 @@ module _ {f before middle : List ℕ} {a : Result ℕ Refusal} (l : link_at most
   written-told m i = let (n, d) = call-ok (rw i at c) in (sym (order-full f (length before) l) ∙ n, d)
 
   -- which stands at the start of the buffer
-  pub converted-written : {r : ℕ} (m : ℕ) → a ≡ Ok m → r ≡ link_at m → Rendered (Converts f) before middle r
+  pub converted-written : {r : ℕ} (m : ℕ) → a ≡ Ok m → r ≡ link_at 4 m → Rendered (Converts f) before middle r
   converted-written m i e =
-      let g = graph_of f in
       let (n, d) = written-told m i in
-      let length-file : link_at m ≡ length (written g) = ap link_at d.size ∙ sym (length-written g) in
-      let laid : middle ≡ written g ++ drop (length (written g)) before = d.file ∙ ap (λ k. written g ++ drop k before) length-file in
+      let long : length (ordered f) ≡ file_length f = length-written (version_of f) (kind_at f) (graph_of f) in
+      let length-file : link_at 4 m ≡ length (ordered f) = rw (d.size, ← old-four f n) (sym long) in
+      let laid : middle ≡ ordered f ++ drop (length (ordered f)) before = d.file ∙ ap (λ k. ordered f ++ drop k before) (sym long) in
       record {
-        text = written g;
-        told = record { refused = λ q h. absurd (none-some q (sym n ∙ h)); ordered = λ h. refl; again = λ h. read_again ((old-accepted f).0 h) };
+        text = ordered f;
+        told = record { refused = λ q h. absurd (none-some q (sym n ∙ h)); ordered = λ h. refl; again = λ h. read_again ((old-accepted f).0 h).0 };
         begins = record {
           laid = laid;
           size = e ∙ length-file;
-          counts = omega (arith, e, length-file, ap length laid, length-append (written g) (drop (length (written g)) before));
+          counts = omega (arith, e, length-file, ap length laid, length-append (ordered f) (drop (length (ordered f)) before));
         };
       }

@@ -45,5 +45,5 @@ fn render(file: &[u8], out: &mut [u8]) -> usize
 }
 
 fn main(rt: HostRuntime) {
-    filter::run::<LONGEST_REPORT, _>(&rt, "vouch-report", render);
+    filter::run::<40970, LONGEST_REPORT, _>(&rt, "vouch-report", render);
 }

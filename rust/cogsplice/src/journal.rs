@@ -59,7 +59,7 @@ enum Kind {
 /// What the first entries of a journal come to.
 #[derive(Clone, Debug, PartialEq, Eq)]
 pub struct After {
-    /// The links present after them, among the journal's members.
+    /// The links present after them, among the journal's members: a file of version 1.
     pub network: Network,
     /// Why each of them was refused; none where it did what it says.
     pub refusals: Vec<Option<EntryRefusal>>,

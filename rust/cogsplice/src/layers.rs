@@ -6,7 +6,7 @@ use std::fmt;
 ///
 /// Layer 1 is the links between the two groups of the finding. They are taken out, and layer 2 is the links between the two groups of
 /// the finding of what remains; so it goes on until no link remains. Each link has one layer, and `x * y` never rises from a layer to the
-/// next. A network without links has no layers.
+/// next. The layers' E add up to the weights of all links. A network without links has no layers.
 ///
 /// Of the layers [`Network::within`](crate::Network::within) A and B all this holds of the links from A to B: every other link is in no
 /// layer.
@@ -14,6 +14,7 @@ use std::fmt;
 pub struct Layers {
     pub(crate) count: usize,
     pub(crate) links: Vec<(usize, usize)>,
+    pub(crate) weights: Vec<u32>,
     pub(crate) of_links: Vec<u16>,
 }
 
@@ -43,14 +44,19 @@ impl Layers {
     /// assert_eq!(layers.links(3).count(), 0);
     /// ```
     pub fn links(&self, layer: usize) -> impl Iterator<Item = (usize, usize)> + '_ {
-        let layered = self.links.iter().zip(&self.of_links);
+        self.places(layer).map(|place| self.links[place])
+    }
+
+    /// Where the links of a layer stand among all links.
+    fn places(&self, layer: usize) -> impl Iterator<Item = usize> + '_ {
+        let layered = self.of_links.iter().enumerate();
         layered
             // 0 is no layer: it stands for the links that are in none.
             .filter(move |&(_, &of_link)| of_link > 0 && usize::from(of_link) == layer)
-            .map(|(&link, _)| link)
+            .map(|(place, _)| place)
     }
 
-    /// The two groups of a layer, and the number of its links; empty where there is no such layer.
+    /// The two groups of a layer, and the sum of the weights of its links; empty where there is no such layer.
     ///
     /// ```
     /// let network = cogsplice::Network::from_links(6, &[(0, 1), (0, 2), (3, 5), (4, 5)]).unwrap();
@@ -66,7 +72,7 @@ impl Layers {
         Pair {
             s: s.into_iter().collect(),
             t: t.into_iter().collect(),
-            edges: self.links(layer).count() as u32,
+            edges: self.places(layer).map(|place| self.weights[place]).sum(),
         }
     }
 }

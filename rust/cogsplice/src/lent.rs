@@ -2,7 +2,7 @@
 //!
 //! Every call is safe on slices of any length and content: none has a precondition. `refusal` is 0 where a call was accepted; of a
 //! refused call every other number is 0 but for `link`, two findings are not called equal, and no table has changed. What lies past the
-//! entries that a call needs stays unchanged. Zero bytes count as the file without members and links; they are no journal.
+//! entries that a call needs stays unchanged. Zero bytes count as the file of version 1 without members and links; they are no journal.
 //!
 //! `a` and `b` are the groups A and B that a call searches inside: one byte for each member, 1 in, 0 out. S lies in A and T in B, and so
 //! does every pair that the call speaks of. With everyone in both the whole network is searched.
@@ -18,7 +18,7 @@ pub struct CheckNumbers {
     pub m: usize,
 }
 
-/// `E(S,T)`, `|S|` and `|T|`.
+/// `E(S,T)`, a sum of weights, `|S|` and `|T|`.
 #[repr(C)]
 #[derive(Clone, Copy, Debug, PartialEq, Eq)]
 pub struct TotalsNumbers {
@@ -64,7 +64,7 @@ pub struct LevelNumbers {
     pub level: usize,
 }
 
-/// The finding `[x,y]`, the equal level, `E(S,T)`, `|S|` and `|T|`.
+/// The finding `[x,y]`, the equal level, `E(S,T)`, a sum of weights, `|S|` and `|T|`.
 #[repr(C)]
 #[derive(Clone, Copy, Debug, PartialEq, Eq)]
 pub struct FindingNumbers {
@@ -182,17 +182,20 @@ pub fn count(file: &[u8], s: &[u8], t: &[u8]) -> TotalsNumbers {
     unsafe { cogsplice_count(file.as_ptr(), file.len(), s.as_ptr(), s.len(), t.as_ptr(), t.len()) }
 }
 
-/// Writes the file with its links ascending by voucher, then vouched: as it stands, and zero bytes as the file that they count as.
+/// Writes the file with its links ascending by voucher, then vouched: as it stands, of the same version and with the same kinds, and zero
+/// bytes as the file that they count as. `out` needs the [`file_length`](crate::file_length) of its links, for version 2 the
+/// [`file_of_kinds_length`](crate::file_of_kinds_length).
 pub fn write(file: &[u8], out: &mut [u8]) -> WriteNumbers {
     unsafe { cogsplice_write(file.as_ptr(), file.len(), out.as_mut_ptr(), out.len()) }
 }
 
-/// Writes a file by the old rule, whose links may stand in any order, with its links ascending by voucher, then vouched.
+/// Writes a file by the old rule, of version 1 alone and with links in any order, with its links ascending by voucher, then vouched. `out`
+/// needs the [`file_length`](crate::file_length) of its links.
 pub fn order(file: &[u8], out: &mut [u8]) -> WriteNumbers {
     unsafe { cogsplice_order(file.as_ptr(), file.len(), out.as_mut_ptr(), out.len()) }
 }
 
-/// Fills the four tables of the index.
+/// Fills the four tables of the index. Kinds do not show in them.
 #[rustfmt::skip]
 pub fn index(file: &[u8], out_starts: &mut [u16], out_rows: &mut [u16], in_starts: &mut [u16], in_rows: &mut [u16]) -> IndexNumbers {
     unsafe {
@@ -297,7 +300,7 @@ pub fn layers(file: &[u8], a: &[u8], b: &[u8], layers: &mut [u16], work: &mut [u
     }
 }
 
-/// Writes the pair of the harmonic measure among everyone; zeros and empty groups where the file has no link.
+/// Writes the pair of the harmonic measure among everyone, by the weights of links; zeros and empty groups where the file has no link.
 #[rustfmt::skip]
 pub fn harmonic(file: &[u8], s: &mut [u8], t: &mut [u8], work: &mut [u16]) -> TotalsNumbers {
     unsafe {
@@ -327,9 +330,10 @@ pub fn equal_findings(
     }
 }
 
-/// Writes the file of the links that are in both of two files, ascending by voucher, then vouched, to `out`, which needs the
-/// [`file_length`](crate::file_length) of so many. Refused by what refuses the first file, then by what refuses the second, then by 21 where
-/// the two n differ, and then by 9. A link that a refusal names is one of the file that is refused.
+/// Writes the links that are in both of two files, of an equal weight in both, as a file of version 2 with the first file's kinds,
+/// ascending by voucher, then vouched, to `out`, which needs the [`file_of_kinds_length`](crate::file_of_kinds_length) of so many. Refused
+/// by what refuses the first file, then by what refuses the second, then by 21 where the two n differ, and then by 9. A link that a refusal
+/// names is one of the file that is refused.
 #[rustfmt::skip]
 pub fn common(first: &[u8], second: &[u8], out: &mut [u8]) -> CommonNumbers {
     unsafe {
@@ -340,10 +344,10 @@ pub fn common(first: &[u8], second: &[u8], out: &mut [u8]) -> CommonNumbers {
     }
 }
 
-/// Follows the first `asked` entries of a journal, all where there are fewer. Writes the file of the links then present, ascending by
-/// voucher, then vouched, to `out`, and to `numbers` one byte for each entry followed: 0 where it did what it says, else the number that
-/// refuses it, the first that applies of 18, 10, 16, 17, 19 and 20. `out` needs [`JOURNAL_OUT`](crate::JOURNAL_OUT) bytes, `work`
-/// [`JOURNAL_WORK`](crate::JOURNAL_WORK) entries.
+/// Follows the first `asked` entries of a journal, all where there are fewer. Writes the file of version 1 of the links then present,
+/// ascending by voucher, then vouched, to `out`, and to `numbers` one byte for each entry followed: 0 where it did what it says, else the
+/// number that refuses it, the first that applies of 18, 10, 16, 17, 19 and 20. `out` needs [`JOURNAL_OUT`](crate::JOURNAL_OUT) bytes,
+/// `work` [`JOURNAL_WORK`](crate::JOURNAL_WORK) entries.
 #[rustfmt::skip]
 pub fn journal(journal: &[u8], asked: usize, out: &mut [u8], numbers: &mut [u8], work: &mut [u16]) -> WriteNumbers {
     unsafe {

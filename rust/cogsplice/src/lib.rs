@@ -7,6 +7,9 @@
 //! formed. That the answers are right is proved in the library itself, which is linked as a static library; this crate only hands numbers
 //! and tables across. [`lent`] has the calls as they are, over tables of the caller's.
 //!
+//! In a file of version 2, such as [`Network::from_links_of_kinds`] makes, each link has a kind, and by it a weight ([`WEIGHTS`]). What a
+//! member has into a group or from one, and E, are sums of weights, and by these go cores, levels, both finders and the layers.
+//!
 //! ```
 //! use cogsplice::Network;
 //! # fn main() -> Result<(), cogsplice::Refusal> {
@@ -53,15 +56,34 @@ pub const MEMBERS: usize = 2048;
 /// The most links of a network.
 pub const LINKS: usize = 8192;
 
+/// The number of kinds that a link may have; they are numbered from 0.
+pub const KINDS: usize = 8;
+
+/// The weight of a link by its kind. Links of a file of version 1, and those of a journal, have kind 0.
+///
+/// ```
+/// use cogsplice::{Network, WEIGHTS};
+/// let network = Network::from_links_of_kinds(3, &[(0, 1, 4), (0, 2, 7)]).unwrap();
+/// let weights: Vec<u32> = network.kinds().map(|kind| WEIGHTS[usize::from(kind)]).collect();
+/// assert_eq!(weights, [4, 12]);
+/// assert_eq!(network.count(&[0], &[1, 2]).unwrap().edges, 4 + 12);
+/// ```
+pub const WEIGHTS: [u32; KINDS] = [1, 1, 2, 3, 4, 6, 8, 12];
+
 /// The most vouches that a member may have given in a journal.
 pub const GIVEN: usize = 64;
 
 /// The vouches due to each member of a journal.
 pub const DUE: usize = 4;
 
-/// The length in bytes of a file of `m` links.
+/// The length in bytes of a file of version 1 of `m` links.
 pub const fn file_length(m: usize) -> usize {
     9 + 4 * m
+}
+
+/// The length in bytes of a file of version 2, whose links have kinds, of `m` links.
+pub const fn file_of_kinds_length(m: usize) -> usize {
+    9 + 5 * m
 }
 
 /// The length of the work table for `n` members and `m` links.

@@ -3,13 +3,20 @@ use std::fmt;
 
 /// A network file that was accepted.
 ///
-/// Two networks are equal, by `==`, exactly when they have the same number of members and the same links: the links of a file ascend, so
-/// that the same links have the same bytes.
+/// It is of version 1, in which every link has kind 0, or of version 2, in which each has its own; by its kind a link weighs as
+/// [`WEIGHTS`](crate::WEIGHTS) says.
+///
+/// Two networks are equal, by `==`, exactly when their files have the same bytes: when they have the same version, the same number of
+/// members, and the same links with the same kinds, for the links of a file ascend. So a network of version 1 and one of version 2 are never
+/// equal, whatever their links.
 ///
 /// ```
 /// use cogsplice::Network;
 /// assert_eq!(Network::from_links(3, &[(2, 0), (0, 1)]), Network::from_links(3, &[(0, 1), (2, 0)]));
 /// assert_ne!(Network::from_links(3, &[(0, 1)]), Network::from_links(4, &[(0, 1)]));
+/// assert_ne!(Network::from_links(3, &[(0, 1)]), Network::from_links_of_kinds(3, &[(0, 1, 0)]));
+/// // Kinds 0 and 1 weigh the same, and are two kinds.
+/// assert_ne!(Network::from_links_of_kinds(3, &[(0, 1, 1)]), Network::from_links_of_kinds(3, &[(0, 1, 0)]));
 /// ```
 #[derive(Clone, Debug, PartialEq, Eq)]
 pub struct Network {
@@ -18,7 +25,7 @@ pub struct Network {
     links: usize,
 }
 
-/// `E(S,T)`, `|S|` and `|T|`.
+/// `E(S,T)`, the sum of the weights of the links from S to T, `|S|` and `|T|`.
 #[derive(Clone, Copy, Debug, PartialEq, Eq)]
 pub struct Totals {
     pub edges: u32,
@@ -26,7 +33,7 @@ pub struct Totals {
     pub targets: usize,
 }
 
-/// Two groups, each ascending, and the number of links from one to the other.
+/// Two groups, each ascending, and the sum of the weights of the links from one to the other: their number, where each weighs 1.
 #[derive(Clone, Debug, PartialEq, Eq)]
 pub struct Pair {
     pub s: Vec<usize>,
@@ -46,7 +53,7 @@ impl Pair {
     }
 }
 
-/// Three lines, without the end of the last: the links and the sizes of both groups, then the members of S and of T.
+/// Three lines, without the end of the last: E and the sizes of both groups, then the members of S and of T.
 ///
 /// ```
 /// let star = cogsplice::Network::from_links(4, &[(0, 1), (0, 2), (0, 3)]).unwrap();
@@ -65,9 +72,9 @@ impl fmt::Display for Pair {
 /// The non-empty `[x,y]`-core with the greatest `x * y`; among equal products the smallest difference between `x` and `y` comes first, then
 /// the smallest `x`.
 ///
-/// No pair of groups is more than twice as dense. In a quiet month, when the network has no link, all numbers are 0 and both groups are
-/// empty. Of a finding [`Network::within`] A and B all this holds of the cores and pairs inside them, and of the links from A to B. Two
-/// findings are equal, by `==`, as [`Finding::equals`] says.
+/// No pair of groups is more than twice as dense. `pair.edges` is E, the sum of the weights of the links from S to T. In a quiet month,
+/// when the network has no link, all numbers are 0 and both groups are empty. Of a finding [`Network::within`] A and B all this holds of
+/// the cores and pairs inside them, and of the links from A to B. Two findings are equal, by `==`, as [`Finding::equals`] says.
 #[derive(Clone, Debug)]
 pub struct Finding {
     pub x: usize,
@@ -203,14 +210,16 @@ impl Index {
 }
 
 impl Network {
-    /// The network of a file's bytes. Zero bytes are the network without members and links, whose file they count as. Refused by 1 to 8
-    /// and 15.
+    /// The network of a file's bytes, of version 1 or 2. Zero bytes are the network of version 1 without members and links, whose file they
+    /// count as. Refused by 1 to 7, 22, 8 and 15.
     ///
     /// ```
     /// use cogsplice::{Network, Refusal};
     /// assert_eq!(Network::from_file(b"VCH\x01\x00\x02\x00\x00\x00".to_vec()).unwrap().members(), 2);
     /// assert_eq!(Network::from_file(b"VCH\x03\x00\x02\x00\x00\x00".to_vec()), Err(Refusal::Version));
     /// assert_eq!(Network::from_file(Vec::new()), Network::from_links(0, &[]));
+    /// let of_kinds = b"VCH\x02\x00\x02\x00\x01\x00\x00\x00\x01\x00\x05".to_vec();
+    /// assert_eq!(Network::from_file(of_kinds), Network::from_links_of_kinds(2, &[(0, 1, 5)]));
     /// ```
     pub fn from_file(file: Vec<u8>) -> Result<Network, Refusal> {
         if file.is_empty() {
@@ -225,8 +234,9 @@ impl Network {
         })
     }
 
-    /// The network of a file by the old rule, whose links may stand in any order: [`Network::file`] then has them in order, and a file that
-    /// is in order as it stands. Zero bytes count as in [`Network::from_file`]. Refused by 1 to 8.
+    /// The network of a file by the old rule, which is of version 1 and whose links may stand in any order: [`Network::file`] then has them
+    /// in order, and a file that is in order as it stands. Zero bytes count as in [`Network::from_file`]. Refused by 1 to 8: by 3
+    /// where it is of version 2.
     ///
     /// ```
     /// use cogsplice::{Network, Refusal};
@@ -246,8 +256,8 @@ impl Network {
         Network::from_file(ordered)
     }
 
-    /// The network of so many members and these links in any order, each from the voucher to the vouched. Refused by 4, 5, 7 and 8; a link
-    /// that a refusal names is numbered as it was given.
+    /// The network of version 1 of so many members and these links in any order, each from the voucher to the vouched. Refused by 4, 5, 7
+    /// and 8; a link that a refusal names is numbered as it was given.
     ///
     /// ```
     /// use cogsplice::{Network, Refusal};
@@ -264,6 +274,37 @@ impl Network {
         Network::read_old(&file)
     }
 
+    /// The network of version 2 of so many members and these links in any order, each the voucher, the vouched and the kind. Refused by 4,
+    /// 5, 7, 22 and 8; a link that a refusal names is numbered as it was given.
+    ///
+    /// ```
+    /// use cogsplice::{Network, Refusal};
+    /// # fn main() -> Result<(), Refusal> {
+    /// // Kind 2 weighs 2, kinds 0 and 1 weigh 1: a ring that only the weights of its links make.
+    /// let links = [(0, 2, 2), (0, 3, 1), (1, 0, 0), (1, 2, 1), (1, 3, 2), (2, 0, 0), (3, 0, 1), (4, 0, 0), (5, 0, 0)];
+    /// let finding = Network::from_links_of_kinds(6, &links)?.finding();
+    /// assert_eq!((finding.x, finding.y, finding.pair.edges), (3, 3, 6));
+    /// assert_eq!((finding.pair.s, finding.pair.t), (vec![0, 1], vec![2, 3]));
+    /// // Without kinds it is the star of those who vouch for member 0.
+    /// let star = Network::from_links(6, &links.map(|(voucher, vouched, _)| (voucher, vouched)))?.finding();
+    /// assert_eq!((star.x, star.y), (1, 5));
+    /// assert_eq!(Network::from_links_of_kinds(2, &[(1, 1, 3), (0, 1, 8)]), Err(Refusal::Kind { link: 1 }));
+    /// assert_eq!(Network::from_links_of_kinds(2, &[(1, 1, 3), (0, 1, 4), (1, 1, 5)]), Err(Refusal::Repeat { link: 2 }));
+    /// # Ok(())
+    /// # }
+    /// ```
+    pub fn from_links_of_kinds(members: usize, links: &[(usize, usize, u8)]) -> Result<Network, Refusal> {
+        match Network::from_file(file_of_kinds(members, links)) {
+            // Nothing but the order is wrong, which is tested last: so the library has judged the links as they were given.
+            Err(Refusal::Order { .. }) => {
+                let mut ascending = links.to_vec();
+                ascending.sort_unstable();
+                Network::from_file(file_of_kinds(members, &ascending))
+            }
+            judged => judged,
+        }
+    }
+
     /// The file's bytes, also where the network was made from none.
     ///
     /// ```
@@ -273,26 +314,55 @@ impl Network {
         &self.file
     }
 
+    /// The version of the file: 1, or 2 where its links have kinds.
+    ///
+    /// ```
+    /// use cogsplice::Network;
+    /// assert_eq!(Network::from_links(2, &[(0, 1)]).unwrap().version(), 1);
+    /// assert_eq!(Network::from_links_of_kinds(2, &[(0, 1, 0)]).unwrap().version(), 2);
+    /// ```
+    pub fn version(&self) -> u16 {
+        u16::from_le_bytes([self.file[3], self.file[4]])
+    }
+
     /// n, the number of members.
     pub fn members(&self) -> usize {
         self.members
     }
 
-    /// The links as they stand in the file: ascending by voucher, then vouched.
+    /// The links as they stand in the file: ascending by voucher, then vouched. [`Network::kinds`] has their kinds.
     ///
     /// ```
     /// let network = cogsplice::Network::from_links(3, &[(2, 0), (0, 2), (0, 1)]).unwrap();
     /// assert_eq!(network.links().collect::<Vec<_>>(), [(0, 1), (0, 2), (2, 0)]);
     /// ```
     pub fn links(&self) -> impl Iterator<Item = (usize, usize)> + '_ {
-        self.file[9..].chunks_exact(4).map(|link| {
+        self.link_bytes().map(|link| {
             let voucher = u16::from_le_bytes([link[0], link[1]]);
             let vouched = u16::from_le_bytes([link[2], link[3]]);
             (voucher.into(), vouched.into())
         })
     }
 
-    /// The index of the network.
+    /// The kinds of the links, in the order of [`Network::links`]; each is 0 where the file is of version 1.
+    ///
+    /// ```
+    /// use cogsplice::Network;
+    /// let network = Network::from_links_of_kinds(3, &[(2, 0, 7), (0, 1, 3)]).unwrap();
+    /// assert_eq!(network.links().zip(network.kinds()).collect::<Vec<_>>(), [((0, 1), 3), ((2, 0), 7)]);
+    /// assert_eq!(Network::from_links(3, &[(2, 0), (0, 1)]).unwrap().kinds().collect::<Vec<_>>(), [0, 0]);
+    /// ```
+    pub fn kinds(&self) -> impl Iterator<Item = u8> + '_ {
+        self.link_bytes().map(|link| link.get(4).copied().unwrap_or(0))
+    }
+
+    /// The bytes of each link: voucher, vouched, and in version 2 the kind.
+    fn link_bytes(&self) -> impl Iterator<Item = &[u8]> {
+        let length = if self.version() == 2 { 5 } else { 4 };
+        self.file[9..].chunks_exact(length)
+    }
+
+    /// The index of the network. Kinds do not show in it.
     pub fn index(&self) -> Index {
         let mut index = Index {
             out_starts: vec![0; self.members + 1],
@@ -311,7 +381,8 @@ impl Network {
         index
     }
 
-    /// `E(S,T)`, `|S|` and `|T|` of two groups, given by their members in any order. Refused by 10 where a member is not below n.
+    /// `E(S,T)`, the sum of the weights of the links from S to T, `|S|` and `|T|` of two groups, given by their members in any order.
+    /// Refused by 10 where a member is not below n.
     ///
     /// ```
     /// # fn main() -> Result<(), cogsplice::Refusal> {
@@ -331,7 +402,8 @@ impl Network {
         })
     }
 
-    /// The `[x,y]`-core: the largest pair in which each member of S has at least `x` links into T, and each of T at least `y` from S.
+    /// The `[x,y]`-core: the largest pair in which each member of S has at least `x` into T, and each of T at least `y` from S, by the
+    /// weights of links.
     ///
     /// ```
     /// let star = cogsplice::Network::from_links(3, &[(0, 1), (0, 2)]).unwrap();
@@ -409,9 +481,9 @@ impl Network {
 
     /// The pair of the harmonic measure, `2 * E(S,T) / (|S| + |T|)`; empty groups where the network has no link.
     ///
-    /// From everyone in both groups the place, a side and a member, with the fewest links to places not yet dropped is dropped, again and
-    /// again; ties go to the voucher side, then to the smaller member. Of the pairs met so, but for the last, of which both groups are
-    /// empty, this is the earliest with the greatest measure. No pair of non-empty groups has more than twice its measure.
+    /// From everyone in both groups the place, a side and a member, whose links to places not yet dropped weigh least together is dropped,
+    /// again and again; ties go to the voucher side, then to the smaller member. Of the pairs met so, but for the last, of which both
+    /// groups are empty, this is the earliest with the greatest measure. No pair of non-empty groups has more than twice its measure.
     ///
     /// ```
     /// use cogsplice::Network;
@@ -450,11 +522,12 @@ impl Network {
         Ok(Within::new(self, self.group(a)?, self.group(b)?))
     }
 
-    /// The links that are in this network, the first, and in another, the second, the same voucher and the same vouched; and how many links
-    /// are in both, in the first only and in the second only. Refused by 21 where the two n differ.
+    /// The links that are in this network, the first, and in another, the second, the same voucher, the same vouched and an equal weight;
+    /// and how many links are in both, in the first only and in the second only. Refused by 21 where the two n differ.
     ///
-    /// With the two exchanged the same links are in both, and the other two numbers are exchanged. A network has all its links in common
-    /// with itself.
+    /// The network of the links in both is of version 2, with the first one's kinds. A link that both have with different weights is in
+    /// each of them only. With the two exchanged the same links are in both, with the second one's kinds, and the other two numbers are
+    /// exchanged. A network has all its links in common with itself.
     ///
     /// ```
     /// use cogsplice::{Network, Refusal};
@@ -467,7 +540,10 @@ impl Network {
     /// // The ring that both bear out.
     /// let finding = common.network.finding();
     /// assert_eq!((finding.pair.s, finding.pair.t), (vec![0, 1], vec![2, 3]));
-    /// assert_eq!(given.common(&given)?.network, given);
+    /// // Kind 1 weighs as much as kind 0, and kind 2 more.
+    /// let visited = Network::from_links_of_kinds(5, &[(0, 2, 1), (0, 3, 2)])?;
+    /// assert_eq!(visited.common(&given)?.network, Network::from_links_of_kinds(5, &[(0, 2, 1)])?);
+    /// assert_eq!(visited.common(&visited)?.network, visited);
     /// assert_eq!(given.common(&Network::from_links(4, &[])?), Err(Refusal::Mismatch));
     /// # Ok(())
     /// # }
@@ -498,6 +574,19 @@ impl Network {
         }
         Ok(group)
     }
+}
+
+/// The file of version 2 of these links as they stand.
+fn file_of_kinds(members: usize, links: &[(usize, usize, u8)]) -> Vec<u8> {
+    let mut file = b"VCH\x02\x00".to_vec();
+    file.extend(number(members));
+    file.extend(number(links.len()));
+    for &(voucher, vouched, kind) in links {
+        file.extend(number(voucher));
+        file.extend(number(vouched));
+        file.push(kind);
+    }
+    file
 }
 
 /// A number of a file or of a journal. What 16 bits do not hold becomes the largest number, which is refused as the number itself would be.

@@ -1,9 +1,9 @@
 use std::error::Error;
 use std::fmt;
 
-/// Why a call was refused, in the order of the tests: where more than one number applies the first of 1 to 8, 15, 21, 9 to 12 and 14 is
-/// given. Of 7, 8 and 15, which name a link, each is tested over all links before the next, and of two files 1 to 8 and 15 all on the first
-/// before any on the second. 13 is retired: it is never given again, nor used for something else.
+/// Why a call was refused, in the order of the tests: where more than one number applies the first of 1 to 7, 22, 8, 15, 21, 9 to 12 and 14
+/// is given. Of 7, 22, 8 and 15, which name a link, each is tested over all links before the next, and of two files 1 to 7, 22, 8 and 15
+/// all on the first before any on the second. 13 is retired: it is never given again, nor used for something else.
 ///
 /// ```
 /// use cogsplice::{Network, Refusal};
@@ -19,17 +19,19 @@ pub enum Refusal {
     Short,
     /// 2: its mark is not `VCH`; a journal's is not `VJN`.
     Mark,
-    /// 3: its version is not 1.
+    /// 3: its version is neither 1 nor 2; of a file that is read by the old rule, and of a journal, it is not 1.
     Version,
     /// 4: n is above 2,048; of two findings that are compared, either n is.
     Members,
     /// 5: m is above 8,192.
     Links,
-    /// 6: its length is not 9 + 4 × m; a journal's is 7 + 5 × k for no k.
+    /// 6: its length is not 9 + 4 × m, of version 2 not 9 + 5 × m; a journal's is 7 + 5 × k for no k.
     Length,
     /// 7: a link names a member not below n; the first such link.
     End { link: usize },
-    /// 8: a link repeats an earlier one; the first such link.
+    /// 22: a link has a kind above 7; the first such link.
+    Kind { link: usize },
+    /// 8: a link repeats an earlier one, of whatever kinds they are; the first such link.
     Repeat { link: usize },
     /// 15: a link comes before the one preceding it, by voucher, then vouched; the first such link.
     Order { link: usize },
@@ -50,11 +52,11 @@ pub enum Refusal {
 
 impl Refusal {
     /// All refusals in the order of the tests, those that name a link with this one.
-    fn all(link: usize) -> [Refusal; 15] {
+    fn all(link: usize) -> [Refusal; 16] {
         use Refusal::*;
-        let (end, repeat, order) = (End { link }, Repeat { link }, Order { link });
+        let (end, kind, repeat, order) = (End { link }, Kind { link }, Repeat { link }, Order { link });
         [
-            Short, Mark, Version, Members, Links, Length, end, repeat, order, Mismatch, Table, Member, Group, Zero, Row,
+            Short, Mark, Version, Members, Links, Length, end, kind, repeat, order, Mismatch, Table, Member, Group, Zero, Row,
         ]
     }
 
@@ -72,11 +74,16 @@ impl Refusal {
         match self {
             Refusal::Short => (1, None, "the file has 1 to 8 bytes, or the journal under 7"),
             Refusal::Mark => (2, None, "the mark is not VCH, or of a journal VJN"),
-            Refusal::Version => (3, None, "the version is not 1"),
+            Refusal::Version => (3, None, "the version is not 1 or 2, or of an old file or a journal 1"),
             Refusal::Members => (4, None, "n is above 2048"),
             Refusal::Links => (5, None, "m is above 8192"),
-            Refusal::Length => (6, None, "the length is not 9 + 4 * m, or of a journal 7 + 5 * k"),
+            Refusal::Length => (
+                6,
+                None,
+                "the length is not 9 + 4 * m, of version 2 9 + 5 * m, or of a journal 7 + 5 * k",
+            ),
             Refusal::End { link } => (7, Some(link), "a link names a member not below n"),
+            Refusal::Kind { link } => (22, Some(link), "a link has a kind above 7"),
             Refusal::Repeat { link } => (8, Some(link), "a link repeats an earlier one"),
             Refusal::Order { link } => (15, Some(link), "a link comes before the one preceding it"),
             Refusal::Mismatch => (21, None, "the two files have different numbers of members"),
@@ -88,7 +95,7 @@ impl Refusal {
         }
     }
 
-    /// The refusal's number, 1 to 15 without 13, or 21.
+    /// The refusal's number, 1 to 15 without 13, 21 or 22.
     pub fn number(self) -> u16 {
         self.told().0
     }

@@ -1,5 +1,5 @@
 use crate::network::accepted;
-use crate::{lent, Finding, Layers, Network, Pair, Refusal};
+use crate::{lent, Finding, Layers, Network, Pair, Refusal, WEIGHTS};
 
 /// A network, searched only among some members: S lies in A and T in B. Made by [`Network::within`].
 ///
@@ -18,8 +18,8 @@ impl<'a> Within<'a> {
         Within { network, a, b }
     }
 
-    /// The `[x,y]`-core inside A and B: the largest pair in them in which each member of S has at least `x` links into T, and each of T at
-    /// least `y` from S. For `x` of 0 S is A, for `y` of 0 T is B.
+    /// The `[x,y]`-core inside A and B: the largest pair in them in which each member of S has at least `x` into T, and each of T at least
+    /// `y` from S, by the weights of links. For `x` of 0 S is A, for `y` of 0 T is B.
     ///
     /// ```
     /// let star = cogsplice::Network::from_links(4, &[(0, 1), (0, 2), (0, 3)]).unwrap();
@@ -106,12 +106,14 @@ impl<'a> Within<'a> {
     /// ```
     pub fn layers(&self) -> Layers {
         let links: Vec<(usize, usize)> = self.network.links().collect();
+        let weights = self.network.kinds().map(|kind| WEIGHTS[usize::from(kind)]).collect();
         let mut of_links = vec![0; links.len()];
         let numbers = lent::layers(self.network.file(), &self.a, &self.b, &mut of_links, &mut self.network.work());
         accepted(numbers.refusal);
         Layers {
             count: numbers.layers,
             links,
+            weights,
             of_links,
         }
     }

@@ -1,5 +1,5 @@
 //! The links in two networks, how many are in both and in either alone, and what refuses the two.
-use cogsplice::{file_length, lent, Common, Network, Refusal, LINKS, MEMBERS};
+use cogsplice::{file_of_kinds_length, lent, Common, Network, Refusal, LINKS, MEMBERS};
 
 type Link = (usize, usize);
 
@@ -9,11 +9,17 @@ fn network(n: usize, links: &[Link]) -> Network {
     Network::from_links(n, links).unwrap()
 }
 
+/// The same links with kind 0: what two networks of version 1 have in common.
+fn in_both(n: usize, links: &[Link]) -> Network {
+    let of_kind_0: Vec<(usize, usize, u8)> = links.iter().map(|&(voucher, vouched)| (voucher, vouched, 0)).collect();
+    Network::from_links_of_kinds(n, &of_kind_0).unwrap()
+}
+
 /// Two networks have these links in common, and so many alone, either way round.
 fn assert_common(first: &Network, second: &Network, links: &[Link], [first_only, second_only]: [usize; 2]) {
     let wanted = |first_only, second_only| {
         Ok(Common {
-            network: network(first.members(), links),
+            network: in_both(first.members(), links),
             both: links.len(),
             first_only,
             second_only,
@@ -121,7 +127,7 @@ fn lent_files_are_judged_in_order() {
     };
     // Another mark; 6 for the voucher of link 2; link 1 as link 0; link 3 before link 2.
     let (mark, end, repeat, descent) = (damaged(0, b'v'), damaged(17, 6), damaged(15, 3), damaged(23, 0));
-    let enough = file_length(W.len());
+    let enough = file_of_kinds_length(W.len());
     let seven = network(7, &W);
     for first in [(&mark, (2, 0)), (&end, (7, 2)), (&repeat, (8, 1)), (&descent, (15, 3))] {
         for second in [&mark, &end, &repeat, &descent, &Vec::new(), &w.file().to_vec()] {
@@ -141,29 +147,32 @@ fn lent_files_are_judged_in_order() {
 #[test]
 fn a_lent_output_needs_the_links_in_both_alone() {
     let (w, few) = (network(6, &W), network(6, &[(0, 4), (3, 3), (5, 5)]));
-    for length in [17, 18, 21, 41, 50] {
+    for length in [19, 20, 24, 49, 60] {
         let mut out = vec![7; length];
         let told = lent::common(w.file(), few.file(), &mut out);
         assert_eq!(
             (told.refusal, told.link, told.both, told.first_only, told.second_only),
             (0, 0, 2, 6, 1)
         );
-        let (written, past) = out.split_at(17);
-        assert_eq!(written, network(6, &[(0, 4), (5, 5)]).file());
+        let (written, past) = out.split_at(19);
+        assert_eq!(written, in_both(6, &[(0, 4), (5, 5)]).file());
         assert!(past.iter().all(|&byte| byte == 7));
     }
-    assert_eq!(refused(w.file(), few.file(), 16), (9, 0));
+    assert_eq!(refused(w.file(), few.file(), 18), (9, 0));
 }
+
+/// The file of version 2 without members and links.
+const NOBODY_OF_KINDS: &[u8] = b"VCH\x02\x00\x00\x00\x00\x00";
 
 #[test]
 fn no_bytes_are_nobody() {
     let nobody = network(0, &[]);
-    let files = [&[][..], nobody.file()];
+    let files = [&[][..], nobody.file(), NOBODY_OF_KINDS];
     for (first, second) in files.iter().flat_map(|&first| files.map(|second| (first, second))) {
         let mut out = [7; 10];
         let told = lent::common(first, second, &mut out);
         assert_eq!((told.refusal, told.both, told.first_only, told.second_only), (0, 0, 0, 0));
-        assert_eq!((&out[..9], out[9]), (nobody.file(), 7));
+        assert_eq!((&out[..9], out[9]), (NOBODY_OF_KINDS, 7));
         assert_eq!(refused(first, second, 8), (9, 0));
     }
 }

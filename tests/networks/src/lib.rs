@@ -2,14 +2,16 @@
 //! bytes of both. Nothing here calls the library.
 mod draw;
 mod journal;
+mod kinded;
 
 pub use draw::Draw;
 pub use journal::{add, encode_journal, return_to, set, withdraw, Entry};
+pub use kinded::{Kinded, Vouch};
 
 /// A link: voucher, then vouched.
 pub type Link = (usize, usize);
 
-/// A network: the number of its members, and its links in the order of the file.
+/// A network without kinds: the number of its members, and its links in the order of the file.
 #[derive(Clone, Debug, PartialEq, Eq)]
 pub struct Network {
     pub n: usize,
@@ -78,17 +80,9 @@ pub fn all_links(vouchers: &[usize], vouched: &[usize]) -> Vec<Link> {
     vouchers.iter().flat_map(links_of).collect()
 }
 
-/// The bytes of a network's file, its links in the given order. What no file may hold is written as it is, in 16 bits.
+/// The bytes of a network's file of version 1, its links in the given order. What no file may hold is written as it is, in 16 bits.
 pub fn encode(network: &Network) -> Vec<u8> {
-    let mut numbers = vec![1, network.n, network.links.len()];
-    numbers.extend(network.links.iter().flat_map(|&(a, b)| [a, b]));
-    let mut file = b"VCH".to_vec();
-    file.extend(
-        numbers
-            .iter()
-            .flat_map(|&number| (number as u16).to_le_bytes()),
-    );
-    file
+    Kinded::from(network).encode()
 }
 
 /// The greatest number whose square is at most this one.

@@ -6,7 +6,7 @@ use cogsplice::lent::{
 
 /// The order in which refusals are tested: the first that applies is given. Of two files every number on the first comes before any on the
 /// second.
-pub const ORDER: [u16; 15] = [1, 2, 3, 4, 5, 6, 7, 8, 15, 21, 9, 10, 11, 12, 14];
+pub const ORDER: [u16; 16] = [1, 2, 3, 4, 5, 6, 7, 22, 8, 15, 21, 9, 10, 11, 12, 14];
 
 /// The number that is given where these apply, or 0 where none does.
 pub fn first_of(applying: &[u16]) -> u16 {
@@ -16,7 +16,7 @@ pub fn first_of(applying: &[u16]) -> u16 {
 
 /// Whether a refusal by this number names a link.
 pub fn names_link(number: u16) -> bool {
-    matches!(number, 7 | 8 | 15)
+    matches!(number, 7 | 22 | 8 | 15)
 }
 
 /// A number of 01's table, with the link's number where it names one, else 0.

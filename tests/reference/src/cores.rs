@@ -2,8 +2,9 @@
 use crate::answers::{refuse, too_short, Refusal, Refused};
 use crate::file::read;
 use crate::groups::{between, faulty, held, totals, Group};
+use crate::weights::weight;
 use cogsplice::lent::{FindingNumbers, LevelNumbers, TotalsNumbers};
-use networks::Network;
+use networks::Kinded;
 
 /// The length of the work table of core, level, equal level, finding, layers and harmonic.
 pub fn work_length(n: usize, m: usize) -> usize {
@@ -12,28 +13,28 @@ pub fn work_length(n: usize, m: usize) -> usize {
 
 /// A network, and the groups A and B that S and T lie in.
 pub(crate) struct Search {
-    pub network: Network,
+    pub network: Kinded,
     pub a: Group,
     pub b: Group,
 }
 
-/// For each member, its links into T as a voucher in S, and its links from S as a vouched member in T.
-pub(crate) fn degrees(network: &Network, s: &Group, t: &Group) -> (Vec<usize>, Vec<usize>) {
+/// For each member, the weights of its links into T as a voucher in S, and of its links from S as a vouched member in T.
+pub(crate) fn degrees(network: &Kinded, s: &Group, t: &Group) -> (Vec<usize>, Vec<usize>) {
     let (mut given, mut taken) = (vec![0; network.n], vec![0; network.n]);
-    for &link in &network.links {
+    for &(link, kind) in &network.links {
         if between(s, t, link) {
-            given[link.0] += 1;
-            taken[link.1] += 1;
+            given[link.0] += weight(kind);
+            taken[link.1] += weight(kind);
         }
     }
     (given, taken)
 }
 
-/// Takes the members out of a group that have fewer links than asked for; whether there was one.
-fn drop_short(group: &mut Group, links: &[usize], asked: usize) -> bool {
+/// Takes the members out of a group whose links weigh less than asked for; whether there was one.
+fn drop_short(group: &mut Group, weights: &[usize], asked: usize) -> bool {
     let mut dropped = false;
-    for (inside, &links) in group.iter_mut().zip(links) {
-        if *inside && links < asked {
+    for (inside, &weight) in group.iter_mut().zip(weights) {
+        if *inside && weight < asked {
             *inside = false;
             dropped = true;
         }
@@ -54,16 +55,37 @@ pub(crate) fn core_of(search: &Search, x: usize, y: usize) -> (Group, Group) {
     }
 }
 
-/// Whether the [x,y]-core is non-empty, for x and y of at least 1: both groups are empty or neither is.
-fn has_core(search: &Search, x: usize, y: usize) -> bool {
-    core_of(search, x, y).0.contains(&true)
+/// The [x,y]-core as a search of its own: its groups as A and B, and the links between them. The cores of greater x and y lie inside.
+fn inside_core(search: &Search, x: usize, y: usize) -> Search {
+    let (a, b) = core_of(search, x, y);
+    let links = search.network.links.iter();
+    let links = links.filter(|vouch| between(&a, &b, vouch.0));
+    let network = Kinded {
+        version: search.network.version,
+        n: search.network.n,
+        links: links.copied().collect(),
+    };
+    Search { network, a, b }
 }
 
-/// A level of any kind: the number is raised by one from 1 until the core is empty.
-fn raise(non_empty: impl Fn(usize) -> bool) -> usize {
+/// The greatest numbers of which this core, as a search of its own, is the core: the least that the links of a member of S weigh, and those
+/// of a member of T. None where it is empty, for x and y of at least 1: both groups are or neither is.
+fn held_up_to(core: &Search) -> Option<(usize, usize)> {
+    let (given, taken) = degrees(&core.network, &core.a, &core.b);
+    Some((least(&core.a, &given)?, least(&core.b, &taken)?))
+}
+
+/// The least of the weights of a group's members.
+fn least(group: &Group, weights: &[usize]) -> Option<usize> {
+    let members = group.iter().zip(weights).filter(|(&inside, _)| inside);
+    members.map(|(_, &weight)| weight).min()
+}
+
+/// A level of any kind: the number is raised from 1 until the core is empty, past those of the same core.
+fn raise(held: impl Fn(usize) -> Option<usize>) -> usize {
     let mut level = 0;
-    while non_empty(level + 1) {
-        level += 1;
+    while let Some(same) = held(level + 1) {
+        level = same;
     }
     level
 }
@@ -81,19 +103,22 @@ fn comes_before((x, y): (usize, usize), (a, b): (usize, usize)) -> bool {
 
 /// x and y of the finding: of all with a non-empty core those that come before the others; 0 and 0 where no link goes from A to B.
 ///
-/// No core is non-empty with an x above every member's number of links as a voucher: a member of S has x links.
+/// For each x the number y is raised until the core is empty, past those of the same core. An x of which every core was met with a smaller
+/// one is passed over as well.
 pub(crate) fn finding_of(search: &Search) -> (usize, usize) {
-    let (given, _) = degrees(&search.network, &search.a, &search.b);
-    let most = given.into_iter().max().unwrap_or(0);
-    let mut best = (0, 0);
-    for x in 1..=most {
-        let mut y = 1;
-        while has_core(search, x, y) {
-            if comes_before((x, y), best) {
-                best = (x, y);
+    let (mut best, mut x) = ((0, 0), 1);
+    let mut first = inside_core(search, 1, 1);
+    while let Some((mut met, _)) = held_up_to(&first) {
+        let mut core = inside_core(&first, x, 1);
+        while let Some((held_x, held_y)) = held_up_to(&core) {
+            if comes_before((held_x, held_y), best) {
+                best = (held_x, held_y);
             }
-            y += 1;
+            met = met.min(held_x);
+            core = inside_core(&core, x, held_y + 1);
         }
+        x = met + 1;
+        first = inside_core(&first, x, 1);
     }
     best
 }
@@ -168,22 +193,26 @@ fn try_core(
 /// The level of x: the largest y of at least 1 with a non-empty [x,y]-core, or 0.
 pub fn level(file: &[u8], groups: [&[u8]; 2], x: u16, work: usize) -> LevelNumbers {
     level_by(file, groups, work, x == 0, |search, y| {
-        has_core(search, x as usize, y)
+        Some(held_up_to(&inside_core(search, x as usize, y))?.1)
     })
 }
 
 /// The level across, for y: the largest x of at least 1 with a non-empty [x,y]-core, or 0.
 pub fn level_across(file: &[u8], groups: [&[u8]; 2], y: u16, work: usize) -> LevelNumbers {
     level_by(file, groups, work, y == 0, |search, x| {
-        has_core(search, x, y as usize)
+        Some(held_up_to(&inside_core(search, x, y as usize))?.0)
     })
 }
 
 /// The equal level: the largest k with a non-empty [k,k]-core, or 0.
 pub fn equal_level(file: &[u8], groups: [&[u8]; 2], work: usize) -> LevelNumbers {
-    level_by(file, groups, work, false, |search, k| {
-        has_core(search, k, k)
-    })
+    level_by(file, groups, work, false, held_equally)
+}
+
+/// The greatest k of which the core is this [k,k]-core as well.
+fn held_equally(search: &Search, k: usize) -> Option<usize> {
+    let (x, y) = held_up_to(&inside_core(search, k, k))?;
+    Some(x.min(y))
 }
 
 /// A level of any kind, with refusal 12 where a level was asked for 0.
@@ -192,14 +221,14 @@ fn level_by(
     groups: [&[u8]; 2],
     work: usize,
     zero: bool,
-    non_empty: impl Fn(&Search, usize) -> bool,
+    held: impl Fn(&Search, usize) -> Option<usize>,
 ) -> LevelNumbers {
     match read_with(file, groups, |_, _| vec![], work, (12, zero)) {
         Err(refusal) => Refused::refused(refusal),
         Ok(search) => LevelNumbers {
             refusal: 0,
             link: 0,
-            level: raise(|level| non_empty(&search, level)),
+            level: raise(|level| held(&search, level)),
         },
     }
 }
@@ -234,7 +263,7 @@ fn try_finding(
         targets,
         ..
     } = totals(&search.network, &best_s, &best_t);
-    let equal = raise(|k| has_core(&search, k, k));
+    let equal = raise(|k| held_equally(&search, k));
     Ok(FindingNumbers {
         refusal: 0,
         link: 0,

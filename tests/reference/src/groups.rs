@@ -1,8 +1,9 @@
 //! Groups, and counting between them.
 use crate::answers::{refuse, too_short, Refusal, Refused};
 use crate::file::read;
+use crate::weights::weight;
 use cogsplice::lent::TotalsNumbers;
-use networks::{Link, Network};
+use networks::{Kinded, Link};
 
 /// A group: for each member, whether it is in.
 pub(crate) type Group = Vec<bool>;
@@ -23,14 +24,14 @@ pub(crate) fn between(s: &Group, t: &Group, (voucher, vouched): Link) -> bool {
     s[voucher] && t[vouched]
 }
 
-/// E(S,T), |S| and |T|.
-pub(crate) fn totals(network: &Network, s: &Group, t: &Group) -> TotalsNumbers {
+/// E(S,T), |S| and |T|. E is the sum of the weights.
+pub(crate) fn totals(network: &Kinded, s: &Group, t: &Group) -> TotalsNumbers {
     let size = |group: &Group| group.iter().filter(|&&inside| inside).count();
-    let links = network.links.iter();
+    let inside = network.links.iter().filter(|vouch| between(s, t, vouch.0));
     TotalsNumbers {
         refusal: 0,
         link: 0,
-        edges: links.filter(|&&link| between(s, t, link)).count() as u32,
+        edges: inside.map(|vouch| weight(vouch.1)).sum::<usize>() as u32,
         sources: size(s),
         targets: size(t),
     }

@@ -4,7 +4,7 @@ use crate::cores::{degrees, put, work_length};
 use crate::file::read;
 use crate::groups::{totals, Group};
 use cogsplice::lent::TotalsNumbers;
-use networks::Network;
+use networks::Kinded;
 
 /// The voucher side comes first.
 #[derive(Clone, Copy, PartialEq, Eq, PartialOrd, Ord)]
@@ -40,24 +40,24 @@ impl State {
         !self.s.contains(&true) && !self.t.contains(&true)
     }
 
-    /// Each place not yet dropped, with the number of its links to places not yet dropped.
-    fn places(&self, network: &Network) -> Vec<(usize, Place)> {
+    /// Each place not yet dropped, with the weight of its links to places not yet dropped.
+    fn places(&self, network: &Kinded) -> Vec<(usize, Place)> {
         let (given, taken) = degrees(network, &self.s, &self.t);
         let sides = [
             (Side::Voucher, &self.s, given),
             (Side::Vouched, &self.t, taken),
         ];
         let mut places = Vec::new();
-        for (side, group, links) in sides {
+        for (side, group, weights) in sides {
             for member in (0..network.n).filter(|&member| group[member]) {
-                places.push((links[member], Place { side, member }));
+                places.push((weights[member], Place { side, member }));
             }
         }
         places
     }
 
-    /// The state without the place that has the fewest links, of those with as few the first.
-    fn drop_one(mut self, network: &Network) -> State {
+    /// The state without the place whose links weigh least, of those that weigh as little the first.
+    fn drop_one(mut self, network: &Kinded) -> State {
         if let Some((_, Place { side, member })) = self.places(network).into_iter().min() {
             match side {
                 Side::Voucher => self.s[member] = false,
@@ -75,7 +75,7 @@ fn is_denser(one: TotalsNumbers, other: TotalsNumbers) -> bool {
 }
 
 /// Of all states before the empty one the earliest with the greatest measure, and its E, |S| and |T|; nobody where there is no link.
-fn best_state(network: &Network) -> (State, TotalsNumbers) {
+fn best_state(network: &Kinded) -> (State, TotalsNumbers) {
     let counted = |state: &State| totals(network, &state.s, &state.t);
     if network.links.is_empty() {
         let nobody = State::of_all(network.n, false);

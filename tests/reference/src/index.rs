@@ -31,8 +31,9 @@ fn try_index(
         (in_rows.len(), m),
     ]);
     refuse(&[(9, short)])?;
-    fill_side(n, network.links.clone(), out_starts, out_rows);
-    let exchanged = network.links.iter().map(|&(a, b)| (b, a)).collect();
+    let links = network.plain().links;
+    let exchanged = links.iter().map(|&(a, b)| (b, a)).collect();
+    fill_side(n, links, out_starts, out_rows);
     fill_side(n, exchanged, in_starts, in_rows);
     Ok(IndexNumbers {
         refusal: 0,

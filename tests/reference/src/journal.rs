@@ -5,7 +5,7 @@ use cogsplice::lent::WriteNumbers;
 use networks::{encode, Link, Network};
 use std::collections::BTreeSet;
 
-/// The length of the output, that of the longest file.
+/// The length of the output, that of the longest file of version 1.
 pub const JOURNAL_OUT: usize = 32_777;
 
 /// The length of the work table.
@@ -193,7 +193,7 @@ fn try_journal(
     }
     let links = month.links();
     let m = links.len();
-    out[..file_length(m)].copy_from_slice(&encode(&Network { n, links }));
+    out[..file_length(1, m)].copy_from_slice(&encode(&Network { n, links }));
     Ok(WriteNumbers {
         refusal: 0,
         link: 0,

@@ -3,21 +3,22 @@ use crate::answers::{Refusal, Refused};
 use crate::cores::{core_of, finding_of, read_with, Search, NO_OTHER};
 use crate::groups::between;
 use cogsplice::lent::LayersNumbers;
-use networks::Network;
+use networks::Kinded;
 
 /// The layer of each link, and the number of layers. Of the links from A to B those between the two groups of the finding are taken out
 /// and what remains is searched, until no link remains; these layers are counted from 1, and every other link has 0.
 fn layers_of(Search { network, a, b }: Search) -> (Vec<u16>, usize) {
     let mut layers = vec![0; network.links.len()];
     let mut still_in: Vec<usize> = (0..network.links.len())
-        .filter(|&e| between(&a, &b, network.links[e]))
+        .filter(|&e| between(&a, &b, network.links[e].0))
         .collect();
     let mut layer = 0;
     while !still_in.is_empty() {
         layer += 1;
         let links = still_in.iter().map(|&e| network.links[e]).collect();
         let remaining = Search {
-            network: Network {
+            network: Kinded {
+                version: network.version,
                 n: network.n,
                 links,
             },
@@ -27,7 +28,7 @@ fn layers_of(Search { network, a, b }: Search) -> (Vec<u16>, usize) {
         let (x, y) = finding_of(&remaining);
         let (s, t) = core_of(&remaining, x, y);
         still_in.retain(|&e| {
-            let taken = between(&s, &t, network.links[e]);
+            let taken = between(&s, &t, network.links[e].0);
             if taken {
                 layers[e] = layer;
             }

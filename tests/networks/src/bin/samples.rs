@@ -2,7 +2,8 @@
 //! is named:
 //! `cargo run --manifest-path tests/networks/Cargo.toml samples`.
 use networks::{
-    add, all_links, encode, encode_journal, return_to, set, withdraw, Draw, Entry, Link, Network,
+    add, all_links, encode, encode_journal, return_to, set, withdraw, Draw, Entry, Kinded, Link,
+    Network,
 };
 use std::collections::HashSet;
 use std::path::Path;
@@ -109,7 +110,7 @@ fn other_members() -> Vec<u8> {
 
 /// A month of 24 members as the vouchers recorded it, as the vouched did, and the links in both records. In both each of 4 members vouches
 /// for each of 4. By the first record two more vouch for these four, by the second the four vouch for two more. Of the random links 10 are in
-/// both, 3 in the first only and 2 in the second only.
+/// both, 3 in the first only and 2 in the second only. What is in both is written in version 2.
 fn two_records() -> [Vec<u8>; 3] {
     let n = 24;
     let (vouchers, vouched) = ([1, 6, 13, 20], [3, 9, 16, 22]);
@@ -122,11 +123,22 @@ fn two_records() -> [Vec<u8>; 3] {
     let random = &links[sure..];
     both.extend(&random[..10]);
     let record = |own: &[Link], random: &[Link]| in_order(n, [&both[..], own, random].concat());
-    [
+    let records = [
         record(&first, &random[10..13]),
         record(&second, &random[13..]),
-        record(&[], &[]),
-    ]
+    ];
+    both.sort();
+    let mut both = Kinded::from(&Network { n, links: both });
+    both.version = 2;
+    let [given, received] = records;
+    [given, received, both.encode()]
+}
+
+/// The network of visits with a kind that is none at link 4.
+fn kind_8() -> Vec<u8> {
+    let mut network = Kinded::visits();
+    network.links[4].1 = 8;
+    network.encode()
 }
 
 /// Network W with links 2 and 3 exchanged.
@@ -167,6 +179,8 @@ fn main() {
     write("given", &given);
     write("received", &received);
     write("confirmed", &confirmed);
+    write("visits", &Kinded::visits().encode());
+    write("visits-orders", &encode(&Kinded::visits().plain()));
     write("quiet", &network(5, &[]));
     write("empty", &network(0, &[]));
     write("nothing", &[]);
@@ -175,6 +189,7 @@ fn main() {
     write("damaged-version", &changed(3, 3));
     write("damaged-length", &w[..40]);
     write("damaged-end", &changed(9 + 4 * 2 + 2, 6));
+    write("damaged-kind", &kind_8());
     write("damaged-repeat", &changed(9 + 4 * 3 + 2, 3));
     write("damaged-order", &exchanged());
     write_as("ordered", "damaged-order", &w);

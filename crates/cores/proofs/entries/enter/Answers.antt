@@ -23,8 +23,8 @@ returns-in_err-links c =
     rw (← c.in_ok-file.ensures.passed)
     (call-told _ (search rules) (IfErr-weaker _ (λ q. later_refusal a.ask g.order g.size a.a.now a.b.now a.s a.t _ ≡ Some q) _ (λ q i. e ∙ i) (search rules)))
 
-pub fill_within-size-requires : goal.fill_within-size-requires
-fill_within-size-requires c =
+pub fill_within-size-requires-clause-room : goal.fill_within-size-requires-clause-room
+fill_within-size-requires-clause-room c =
     let a = c.args in
     rw c.in_ok-links.ensures.passed.0 ((later-none _ _ _ a.a.now a.b.now a.s a.t _ c.in_ok-links.ensures.none).0.work)
 
@@ -44,5 +44,6 @@ returns c =
       size = size;
       long = (later-none _ _ _ _ _ _ _ _ links.none).0;
       tabled = rw c.order_of.ensures.0 filled.tabled;
+      weighed = rw (c.order_of.ensures.0, ← links.passed.0) c.fill_within-size.ensures.weighed;
       work = (filled.same_length, drop_more _ a.work.now (work_length g.order c.fill_within-size.result) (work_length g.order g.size) (omega (arith, size)) filled.past);
     })

@@ -7,4 +7,4 @@ use Rattle.filling.proofs.Times.{Listing}
 use Rattle.filling.proofs.listings.pick_edges.Given as goal
 
 abbrev pub invariant-loop-edge : goal.invariant-loop-edge
-invariant-loop-edge l = Listing (within (graph_of l.links.bytes.now) (group_of l.links.a.now) (group_of l.links.b.now)) l.initial.edges l.edges l.edge l.count
+invariant-loop-edge l = Listing (within (graph_of l.links.file.bytes.now) (group_of l.links.a.now) (group_of l.links.b.now)) l.initial.edges l.edges l.edge l.count

@@ -8,17 +8,17 @@ use Rattle.harmonic.proofs.walks.best_state.Goals as goal
 pub returns-then-peel-eq0 : goal.returns-then-peel-eq0
 returns-then-peel-eq0 c =
     let e = rw c.of.ensures at c.fresh-peel.ensures in
-    tells_none e.peeling e.head e.kept c.args.extent.small c.if-peel-eq0.true
+    tells_none e.peeling e.head e.kept c.if-peel-eq0.true
 
 pub build-requires : goal.build-requires
 build-requires c =
     let e = rw c.of.ensures at c.fresh-peel.ensures in
-    rw c.bracket_of.ensures (room c.args.extent.small (some-order e.peeling e.head e.kept c.requires.held (omega arith)) (omega (arith, (held_rows c.requires.held).long)))
+    rw c.bracket_of.ensures (room c.args.extent.small (some-order e.peeling e.head e.kept c.requires.weighed.held (omega arith)) (omega (arith, (held_rows c.requires.weighed.held).long)))
 
 pub walk-requires-clause-held : goal.walk-requires-clause-held
 walk-requires-clause-held c =
     let e = rw c.of.ensures at c.fresh-peel.ensures in
-    held_kept c.requires.held (tree-kept e.peeling e.head e.kept (rw c.bracket_of.ensures at c.build.ensures.beside))
+    held_kept c.requires.weighed.held (tree-kept e.peeling e.head e.kept (rw c.bracket_of.ensures at c.build.ensures.beside))
 
 pub walk-requires-clause-begins : goal.walk-requires-clause-begins
 walk-requires-clause-begins c =

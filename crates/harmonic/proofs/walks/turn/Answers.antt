@@ -5,15 +5,15 @@ use Rattle.harmonic.proofs.walks.turn.Goals as goal
 
 pub drop_place-requires-clause-spare : goal.drop_place-requires-clause-spare
 drop_place-requires-clause-spare c =
-    rw c.number_of-number.ensures (turn-spare c.args.extent.small c.requires.at.1 c.requires.next)
+    rw c.number_of-number.ensures (turn-spare c.requires.at.1 c.requires.next)
 
 pub less-requires-clause-has_links : goal.less-requires-clause-has_links
 less-requires-clause-has_links c =
     let d = rw (c.bracket_of.ensures, c.number_of-number.ensures) at c.from-degree.ensures in
-    omega (arith, d, turn-links c.args.extent.small c.requires.at.1 c.requires.next)
+    omega (arith, d, turn-links c.requires.at.1 c.requires.next)
 
 pub less-requires-clause-has_place : goal.less-requires-clause-has_place
-less-requires-clause-has_place c = turn-some c.args.extent.small c.requires.at.1 c.requires.next
+less-requires-clause-has_place c = turn-some c.requires.at.1 c.requires.next
 
 pub returns : goal.returns
 returns c =
@@ -22,5 +22,5 @@ returns c =
     record {
       tree = d.tree;
       kept = d.kept;
-      each = λ g a. rw (c.less.ensures, rw (c.bracket_of.ensures, e) at c.from-degree.ensures) (turn-next c.args.extent.small a c.requires.next d);
+      each = λ g a. rw (c.less.ensures, rw (c.bracket_of.ensures, e) at c.from-degree.ensures) (turn-next a c.requires.next d);
     }

@@ -18,4 +18,4 @@ pub loop-place-preserved : goal.loop-place-preserved
 loop-place-preserved c = rw c.better_of-best.ensures (going_next c.loop-place.invariant c.turn-state.ensures)
 
 pub returns : goal.returns
-returns c = going-ends c.loop-place.invariant c.args.extent.small (omega (arith, c.requires.tree.room.some)) c.in_default.ensures
+returns c = going-ends c.loop-place.invariant (omega (arith, c.requires.tree.room.some)) c.in_default.ensures

@@ -20,7 +20,7 @@ returns c =
     let k = c.work_length-needed.result - 0 in
     rw (← told.passed.0, ← told.passed.1, ← told.passed.2)
     (call.accepted c.layer_links.result none refl
-    (layers-told links.bytes.now links.a.now links.b.now a.layers.now c.layer_links.new.layers a.work.now c.layer_links.new.work {n = n} {k = k} enough.accepted.sound.closed (omega arith) (omega arith) (omega (arith, enough.layers), omega (arith, enough.work)) (
+    (layers-told links.file.bytes.now links.a.now links.b.now a.layers.now c.layer_links.new.layers a.work.now c.layer_links.new.work {n = n} {k = k} enough.accepted.sound.closed (omega arith) (omega arith) (omega (arith, enough.layers), omega (arith, enough.work)) (
       c.layer_links.ensures.lengths.0 ∙ length-take-le n a.layers.now (omega (arith, enough.layers)),
       c.layer_links.ensures.lengths.1 ∙ length-take-le k a.work.now (omega (arith, enough.work)),
     ) c.layer_links.ensures.layering))

@@ -10,9 +10,9 @@ use Rattle.layering.proofs.takes.layer_links.Given as goal
 abbrev pub invariant-loop-left : goal.invariant-loop-left
 invariant-loop-left l =
     record {
-      turn : Turn (within (graph_of l.links.bytes.now) (group_of l.links.a.now) (group_of l.links.b.now)) l.layers l.edges l.made l.left;
+      turn : Turn (within (graph_of l.links.file.bytes.now) (group_of l.links.a.now) (group_of l.links.b.now)) l.layers l.edges l.made l.left;
       work : length l.work ≡ length l.initial.work;
     }
 
 abbrev pub decreases-loop-left : goal.decreases-loop-left
-decreases-loop-left l = (graph_of l.links.bytes.now).size - l.made
+decreases-loop-left l = (graph_of l.links.file.bytes.now).size - l.made

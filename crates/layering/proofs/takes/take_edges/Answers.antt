@@ -11,7 +11,7 @@ loop-edge-init c = taken-begins _ _
 
 pub loop-edge-preserved : goal.loop-edge-preserved
 loop-edge-preserved c =
-    let joined : c.is_between.result ≡ joins (graph_of c.args.list.now.bytes.now) (group_of c.args.s.now) (group_of c.args.t.now) (get_or c.args.list.now.edges.now c.loop-edge.edge-index 0) =
+    let joined : c.is_between.result ≡ joins (graph_of c.args.list.now.file.bytes.now) (group_of c.args.s.now) (group_of c.args.t.now) (get_or c.args.list.now.edges.now c.loop-edge.edge-index 0) =
     rw c.from-edge.ensures at c.is_between.ensures in
     taken_next c.args.list.now.edges.now c.loop-edge.invariant (omega (arith, c.args.list.now.lists c.loop-edge.edge-index c.loop-edge-test.true))
     (elim c.if-is_between.branch [

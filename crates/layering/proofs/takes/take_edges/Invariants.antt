@@ -6,4 +6,4 @@ use Rattle.layering.proofs.takes.take_edges.Given as goal
 
 abbrev pub invariant-loop-edge : goal.invariant-loop-edge
 invariant-loop-edge l =
-    TakenFrom (graph_of l.list.bytes.now) (group_of l.s) (group_of l.t) l.layer l.list.edges.now l.edge-index l.initial.layers l.layers
+    TakenFrom (graph_of l.list.file.bytes.now) (group_of l.s) (group_of l.t) l.layer l.list.edges.now l.edge-index l.initial.layers l.layers

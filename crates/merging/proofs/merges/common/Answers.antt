@@ -1,16 +1,27 @@
 -- `common` refuses by the two files, then by a short output; else it writes the edges that the merge has listed.
-use Rattle.std.proofs.Common.{rules, ◌≡◌, ◌≤◌, ◌-◌, length, take, sym, ◌∙◌, refl, arith}
+use Rattle.std.proofs.Common.{rules, ◌≡◌, ◌≤◌, ◌-◌, length, take, sym, ap, ◌∙◌, refl, arith}
 use lib.Seq.{length-take-le}
 use Rattle.network.specs.Calls as call
-use Rattle.network.specs.File.{link_at, graph_of}
+use Rattle.network.specs.File.{stride, link_at, graph_of}
 use Rattle.network.specs.Refusals.{out_refusal}
 use Rattle.network.proofs.Answers.{call-told, call-refused, or_else-told}
 use Rattle.calls.proofs.Writer.{out-short, out_none}
-use Rattle.merging.specs.Calls.{pair_refusal}
+use Rattle.merging.specs.Calls.{pair_refusal, common_length}
 use Rattle.merging.proofs.Shares.{shared-few}
 use Rattle.merging.proofs.Picks.{picked-few, picked-cut}
 use Rattle.merging.proofs.Commons.{common-told}
+use Rattle.merging.proofs.merges.common.Goals.{After-link_at}
 use Rattle.merging.proofs.merges.common.Goals as goal
+
+-- the output is compared with the length of a file of so many links,
+room-needed : (c : After-link_at) → c.link_at.result ≡ link_at (stride 2) c.list_common-both.result
+room-needed c = c.link_at.ensures ∙ ap (λ s. link_at s c.list_common-both.result) c.stride.ensures.0
+
+-- which are those in both
+compared : (c : After-link_at) → c.link_at.result ≡ common_length c.args.first.now c.args.second.now
+compared c =
+    let (first, second, passed) = c.in_ok-pair.ensures.passed in
+    room-needed c ∙ ap (link_at (stride 2)) (rw (first, second) at c.list_common-both.ensures.picked).counted
 
 pub returns-in_err-pair : goal.returns-in_err-pair
 unfolding out_refusal
@@ -22,8 +33,7 @@ link_at-requires c = omega (arith, picked-few c.list_common-both.ensures.picked,
 pub returns-then-out-link_at : goal.returns-then-out-link_at
 returns-then-out-link_at c =
     let (first, second, passed) = c.in_ok-pair.ensures.passed in
-    let picked = rw (first, second) at c.list_common-both.ensures.picked in
-    call-refused (out-short _ _ passed (omega (arith, c.link_at.ensures, picked.counted, c.if-out-link_at.true)))
+    call-refused (out-short _ _ passed (omega (arith, compared (goal.at.returns-then-out-link_at c).After-link_at, c.if-out-link_at.true)))
 
 pub slice_bounds-put_file-end : goal.slice_bounds-put_file-end
 slice_bounds-put_file-end c = omega (arith, picked-few c.list_common-both.ensures.picked, c.in_ok-pair.pair.first.accepted.sound.header.size-most, c.list_common-both.ensures.length)
@@ -50,8 +60,8 @@ returns c =
     let room : both ≤ length list = omega (arith, picked-few listed.picked, pair.first.accepted.sound.header.size-most, listed.length) in
     let size : length (take both list) ≡ both = length-take-le both list room in
     let whole : both - 0 ≡ both = omega arith in
-    let long : link_at both ≤ length c.args.out.now = omega (arith, c.link_at.ensures, c.if-out-link_at.false) in
+    let long : link_at (stride 2) both ≤ length c.args.out.now = omega (arith, room-needed (goal.at.returns c).After-link_at, c.if-out-link_at.false) in
     let picked = picked-cut list both room listed.picked in
-    call.accepted _ (out_none _ _ passed (omega (arith, long, (rw (first, second) at picked).counted, size))) refl
+    call.accepted _ (out_none _ _ passed (omega (arith, compared (goal.at.returns c).After-link_at, c.if-out-link_at.false))) refl
     (rw (← first, ← second)
-    (common-told pair.first.bytes.now pair.second.bytes.now (rw (first, second) passed) picked (size ∙ listed.counted) c.args.out.now (omega (arith, size, long)) (rw whole at c.put_file.ensures) (sym size) (search rules) (search rules)))
+    (common-told pair.first.bytes.now pair.second.bytes.now (rw (first, second) passed) picked (size ∙ listed.counted) c.args.out.now (rw size long) (rw whole at c.put_file.ensures) (sym size) (search rules) (search rules)))

@@ -5,4 +5,4 @@ use Rattle.merging.specs.Merging.{Run}
 use Rattle.merging.proofs.walks.is_run.Given as goal
 
 abbrev pub invariant-loop-i : goal.invariant-loop-i
-invariant-loop-i l = l.same ≡ true → Run (graph_of l.pair.first.bytes.now) (graph_of l.pair.second.bytes.now) l.walk.first l.walk.second l.i
+invariant-loop-i g l = l.same ≡ true → Run (graph_of l.pair.first.bytes.now) (graph_of l.pair.second.bytes.now) l.walk.first l.walk.second l.i

@@ -1,28 +1,19 @@
--- Each turn of `list_common` passes a run of both files, or takes steps.
-use Rattle.std.proofs.Common.{rules, arith, ◌∙◌}
-use Rattle.merging.specs.Merging.{run}
-use Rattle.merging.proofs.Walking.{rising}
-use Rattle.merging.proofs.Steps.{merging-begin, merging-run, merging-picked, merging-counted}
+-- An edge that has not four bytes has five.
+use Rattle.std.proofs.Common.{sym, ◌∙◌}
+use Rattle.network.proofs.Versions.{five-bytes}
 use Rattle.merging.proofs.walks.list_common.Goals as goal
 
-pub loop-walk-init : goal.loop-walk-init
-loop-walk-init c = record { merged = merging-begin _ _ _; length = search rules }
-
-pub loop-walk-preserved-then-is_run : goal.loop-walk-preserved-then-is_run
-loop-walk-preserved-then-is_run c =
+pub walk_through-requires-in-true-false-clause-strides : goal.walk_through-requires-in-true-false-clause-strides
+walk_through-requires-in-true-false-clause-strides c =
     let pair = c.args.pair.now in
-    let passed = c.pass_run-walk.ensures in
-    record {
-      merged = rw passed.walk (merging-run (rising pair.first.accepted) (rising pair.second.accepted) c.loop-walk.invariant.merged run (c.is_run.ensures c.if-is_run.true) passed.list);
-      length = passed.list.same_length ∙ c.loop-walk.invariant.length;
-    }
+    (sym c.in-true-false.is-0 ∙ pair.first.strided, five-bytes pair.second.bytes.now pair.second.strided c.in-true-false.is-1)
 
-pub returns-else-walk-second_size-clause-picked : goal.returns-else-walk-second_size-clause-picked
-returns-else-walk-second_size-clause-picked c =
+pub walk_through-requires-in-false-true-clause-strides : goal.walk_through-requires-in-false-true-clause-strides
+walk_through-requires-in-false-true-clause-strides c =
     let pair = c.args.pair.now in
-    merging-picked (rising pair.first.accepted) (rising pair.second.accepted) c.loop-walk.invariant.merged (λ m n. omega (arith, c.if-walk-second_size.false, c.size_of-second_size.ensures))
+    (five-bytes pair.first.bytes.now pair.first.strided c.in-false-true.is-0, sym c.in-false-true.is-1 ∙ pair.second.strided)
 
-pub returns-after-loop-walk-clause-counted : goal.returns-after-loop-walk-clause-counted
-returns-after-loop-walk-clause-counted c =
+pub walk_through-requires-in-false-false-clause-strides : goal.walk_through-requires-in-false-false-clause-strides
+walk_through-requires-in-false-false-clause-strides c =
     let pair = c.args.pair.now in
-    merging-counted (rising pair.first.accepted) (rising pair.second.accepted) c.loop-walk.invariant.merged (λ m n. omega (arith, c.loop-walk-test.false, c.size_of-first_size.ensures))
+    (five-bytes pair.first.bytes.now pair.first.strided c.in-false-false.is-0, five-bytes pair.second.bytes.now pair.second.strided c.in-false-false.is-1)

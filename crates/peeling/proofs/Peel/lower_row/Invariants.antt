@@ -6,4 +6,4 @@ use Rattle.peeling.proofs.Peel.lower_row.Given as goal
 
 abbrev pub invariant-loop-k : goal.invariant-loop-k
 invariant-loop-k l =
-    Passing l.scope.extent.order l.scope.extent.size (need_of l.scope) l.initial.work l.initial.peel l.place l.initial.k l.end l.work l.peel l.k
+    Passing l.scope.extent.order l.scope.extent.size (need_of l.scope) l.initial.work l.self l.place l.initial.k l.end l.work l.count l.k

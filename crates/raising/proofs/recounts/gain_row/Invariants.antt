@@ -1,5 +1,5 @@
--- `gain_row` gives one edge more to each place of a row. The loop's invariant: each place has gained as many edges as it has entries among those
--- passed.
+-- `gain_row` gives each place of a row the edge that the row has more. The loop's invariant: each place has gained the weight of its entries among
+-- those passed.
 use Rattle.raising.proofs.Gains.{Gaining}
 use Rattle.raising.proofs.recounts.gain_row.Given as goal
 

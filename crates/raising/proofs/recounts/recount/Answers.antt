@@ -1,5 +1,5 @@
 use Rattle.std.proofs.Common.{◌≡◌, ◌+◌, ◌-◌, arith}
-use Rattle.peeling.proofs.Kept.{rows-kept}
+use Rattle.peeling.proofs.Kept.{rows-kept, single-kept}
 use Rattle.peeling.proofs.Totals.{held_rows, held_kept}
 use Rattle.raising.proofs.Counts.{recount-begins, recount-room, recount-next, recount-from}
 use Rattle.raising.proofs.recounts.recount.Goals as goal
@@ -11,11 +11,17 @@ pub recount_place-requires-clause-rows : goal.recount_place-requires-clause-rows
 recount_place-requires-clause-rows c =
     rows-kept (held_rows (held_kept c.requires.held c.clear_other.ensures.recounting.kept)) c.loop-place.invariant.recounting.kept
 
+pub recount_place-requires-clause-single : goal.recount_place-requires-clause-single
+recount_place-requires-clause-single c h =
+    let cleared = c.clear_other.ensures.recounting.kept in
+    let rows = held_rows (held_kept c.requires.held cleared) in
+    single-kept rows c.loop-place.invariant.recounting.kept (single-kept (held_rows c.requires.held) cleared (c.requires.single h))
+
 pub recount_place-requires-clause-roomy : goal.recount_place-requires-clause-roomy
 recount_place-requires-clause-roomy c =
     let e : c.args.first + (c.loop-place.place - c.args.first) ≡ c.loop-place.place = omega arith in
     rw e
-    at (recount-room (held_kept c.requires.held c.clear_other.ensures.recounting.kept).tabled c.requires.side (omega arith) c.loop-place.invariant c.args.scope.extent.small)
+    at (recount-room (held_kept c.requires.held c.clear_other.ensures.recounting.kept).tabled c.requires.side (omega arith) c.loop-place.invariant)
 
 pub loop-place-preserved : goal.loop-place-preserved
 loop-place-preserved c =

@@ -4,8 +4,8 @@ use crate::indexes::try_indexes;
 use crate::inside::{everyone, lend, lent_groups, tries_inside, Groups};
 use crate::table::{lengths_to_try, Table};
 use cogsplice::lent::{self, WriteNumbers};
-use networks::{encode, root, Network};
-use reference::{file_length, work_length};
+use networks::{encode, root, Kinded, Network};
+use reference::{file_length, weight, work_length};
 use std::fmt::Debug;
 
 /// Every call on the case's file, accepted or not.
@@ -29,14 +29,14 @@ pub fn try_all(case: &mut Case) {
     case.compare(|| "the file stays as it was".into(), before, after);
 }
 
-/// The most links that one member has as a voucher and as a vouched member.
-fn most_links(network: &Network) -> [usize; 2] {
-    let mut counts = vec![[0; 2]; network.n];
-    for &(a, b) in &network.links {
-        counts[a][0] += 1;
-        counts[b][1] += 1;
+/// The most that the links of one member weigh as a voucher and as a vouched member.
+fn most_weights(network: &Kinded) -> [usize; 2] {
+    let mut sums = vec![[0; 2]; network.n];
+    for &((a, b), kind) in &network.links {
+        sums[a][0] += weight(kind);
+        sums[b][1] += weight(kind);
     }
-    [0, 1].map(|side| counts.iter().map(|count| count[side]).max().unwrap_or(0))
+    [0, 1].map(|side| sums.iter().map(|sum| sum[side]).max().unwrap_or(0))
 }
 
 /// Values of x and y for cores: the ends of the range, some at random, and those around the finding.
@@ -48,7 +48,7 @@ fn pairs_to_try(case: &mut Case) -> Vec<(u16, u16)> {
         Ok(network) => network,
         Err(_) => return pairs,
     };
-    let most = most_links(&network);
+    let most = most_weights(&network);
     for _ in 0..6 {
         let [x, y] = most.map(|most| {
             let high = case.draw.pick(&[most + 1, root(most) + 1]);
@@ -65,13 +65,15 @@ fn pairs_to_try(case: &mut Case) -> Vec<(u16, u16)> {
     pairs
 }
 
-/// Values to ask levels for: all up to n + 1 where that is little, else some.
+/// Values to ask levels for: all up to n + 1 where that is little, and else, or where links may weigh more than 1, some.
 fn levels_to_try(case: &mut Case) -> Vec<u16> {
     let n = case.claimed().0;
     let mut levels: Vec<usize> = (0..=(n + 1).min(10)).collect();
-    if let (Ok(network), true) = (reference::read(&case.file), n > 9) {
-        for most in most_links(&network) {
-            levels.extend([case.draw.among(1, most + 1), most, most + 1]);
+    if let Ok(network) = reference::read(&case.file) {
+        if n > 9 || network.version == 2 {
+            for most in most_weights(&network) {
+                levels.extend([case.draw.among(1, most + 1), most, most + 1]);
+            }
         }
     }
     levels.push(65_535);
@@ -105,7 +107,7 @@ pub fn try_writes(case: &mut Case) {
     if reference::read(&case.file).is_ok() {
         try_copy(case);
     }
-    if let Ok(network) = reference::read_any_order(&case.file) {
+    if let Ok(network) = reference::read_old(&case.file) {
         try_write_again(case, network);
     }
 }
@@ -114,8 +116,11 @@ pub fn try_writes(case: &mut Case) {
 type Write = fn(&[u8], &mut [u8]) -> WriteNumbers;
 
 fn try_write(case: &mut Case, call: &str, reference: Write, library: Write) {
-    let m = case.claimed().1;
-    for [length] in lengths_to_try(&mut case.draw, [file_length(m)]) {
+    let needed = case.claimed_length();
+    let mut lengths = lengths_to_try(&mut case.draw, [needed]);
+    // As long as a file of version 1 with as many links.
+    lengths.push([file_length(1, case.claimed().1)]);
+    for [length] in lengths {
         let mut out = Table::bytes(&mut case.draw, length);
         let mut library_out = out.clone();
         let expected = reference(&case.file, out.lend());
@@ -129,7 +134,7 @@ fn try_write(case: &mut Case, call: &str, reference: Write, library: Write) {
     }
 }
 
-/// An accepted file is written as it stands, and zero bytes as the file that they count as.
+/// An accepted file is written as it stands, in its version, and zero bytes as the file that they count as.
 fn try_copy(case: &mut Case) {
     let mut copied = case.file.clone();
     if copied.is_empty() {
@@ -141,9 +146,9 @@ fn try_copy(case: &mut Case) {
 }
 
 /// What the conversion writes is accepted, holds the same links, and is written again as the same bytes.
-fn try_write_again(case: &mut Case, mut network: Network) {
+fn try_write_again(case: &mut Case, mut network: Kinded) {
     let m = network.links.len();
-    let mut first = vec![0; file_length(m)];
+    let mut first = vec![0; file_length(1, m)];
     lent::order(&case.file, &mut first);
     network.links.sort();
     let written = reference::read(&first);

@@ -1,6 +1,6 @@
 //! One case: its random numbers, its file, and the comparisons made in it.
 use networks::Draw;
-use reference::{LINKS, MEMBERS};
+use reference::{file_length, LINKS, MEMBERS};
 use std::fmt::Debug;
 
 /// The most differences that are printed.
@@ -12,7 +12,7 @@ pub struct Tally {
     pub comparisons: u64,
     pub differences: u64,
     /// For each refusal number, how many answers had it; for 0, how many were accepted.
-    pub refusals: [u64; 22],
+    pub refusals: [u64; 23],
     /// For each number of a journal's entry, how many followed entries had it; for 0, how many were accepted.
     pub entries: [u64; 21],
     /// For the level, the level across and the equal level, how often a link more left it as it was and how often it raised it by 1.
@@ -94,6 +94,19 @@ impl<'a> Case<'a> {
             }
             None => (0, 0),
         }
+    }
+
+    /// 2 where the file's bytes claim this version, else 1.
+    pub fn version(&self) -> usize {
+        match self.file.get(3..5) {
+            Some([2, 0]) => 2,
+            _ => 1,
+        }
+    }
+
+    /// The length of a file of this version with the claimed m.
+    pub fn claimed_length(&self) -> usize {
+        file_length(self.version(), self.claimed().1)
     }
 
     /// Counts an answer of the reference by its refusal number.

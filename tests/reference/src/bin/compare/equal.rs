@@ -6,7 +6,7 @@ use crate::kinds::KINDS;
 use crate::networks::small_file;
 use crate::table::Table;
 use cogsplice::lent::{self, EqualNumbers};
-use networks::{encode, Draw};
+use networks::Draw;
 use reference::{equal_findings, first_of, read, work_length, Found, MEMBERS};
 
 /// A finding as the call is given it: x and y, n, and the bytes of S and T, which may be more than n.
@@ -445,7 +445,7 @@ fn try_networks(case: &mut Case) {
         let mut network = read(&case.file).expect("the file of a network");
         if !network.links.is_empty() {
             network.links.remove(case.draw.below(network.links.len()));
-            case.file = encode(&network);
+            case.file = network.encode();
             let fewer = found(case);
             try_call(case, "found with a link less", &one, &fewer);
         }

@@ -24,7 +24,7 @@ pub fn try_indexes(case: &mut Case) {
         );
     }
     if let Ok(network) = reference::read(&case.file) {
-        try_rows(case, &network);
+        try_rows(case, &network.plain());
     }
 }
 

@@ -71,7 +71,7 @@ impl Lent {
 
     /// The file that the output begins with.
     fn written(&mut self, m: usize) -> &[u8] {
-        &self.out.lend()[..file_length(m)]
+        &self.out.lend()[..file_length(1, m)]
     }
 }
 

@@ -1,5 +1,5 @@
-//! Networks of many kinds, for any number of members and any limit of links.
-use networks::{root, Draw, Link, Network};
+//! Networks of many kinds, for any number of members and any limit of links. The kinds of the links are drawn elsewhere.
+use networks::{root, Draw, Link, Network, Vouch};
 use std::cmp::Reverse;
 
 /// A kind of network: its links among n members, about m at most. Repeats are taken out later.
@@ -108,18 +108,18 @@ pub fn network(draw: &mut Draw, kind: &Kind, n: usize, m: usize) -> Network {
 }
 
 /// Whether a link comes before the one preceding it.
-fn descends(links: &[Link]) -> bool {
-    links.windows(2).any(|pair| pair[1] < pair[0])
+fn descends(links: &[Vouch]) -> bool {
+    links.windows(2).any(|pair| pair[1].0 < pair[0].0)
 }
 
 /// Puts links, at least two of them different, in an order that descends: now and then all the way, or at one place alone.
-pub fn disorder(draw: &mut Draw, links: &mut [Link]) {
+pub fn disorder(draw: &mut Draw, links: &mut [Vouch]) {
     loop {
         let place = draw.below(links.len() - 1);
         match draw.below(7) {
-            0 => links.sort_by_key(|&link| Reverse(link)),
-            1 => links.sort_by_key(|&(a, b)| (b, a)),
-            2 => links.sort_by_key(|&(a, b)| (a, Reverse(b))),
+            0 => links.sort_by_key(|&(link, _)| Reverse(link)),
+            1 => links.sort_by_key(|&((a, b), _)| (b, a)),
+            2 => links.sort_by_key(|&((a, b), _)| (a, Reverse(b))),
             3 => links.swap(place, place + 1),
             4 => links[place..].rotate_left(1),
             5 => links[place..].rotate_right(1),

@@ -13,6 +13,7 @@ mod indexes;
 mod inside;
 mod journal;
 mod kinds;
+mod link_kinds;
 mod networks;
 mod one_order;
 mod order;

@@ -2,16 +2,20 @@
 use crate::calls::try_all;
 use crate::case::Case;
 use crate::kinds::{disorder, network, Kind, KINDS};
+use crate::link_kinds::{light, perhaps_with_kinds};
 use cogsplice::lent;
-use networks::{encode, Network};
+use networks::Kinded;
 use reference::{read, LINKS, MEMBERS};
 
-/// Makes the case's file: of a kind, with n members and at most m links. Every second one without members is of no bytes.
-fn set_file(case: &mut Case, kind: &Kind, n: usize, m: usize) -> Network {
+/// Makes the case's file: of a kind, with n members and at most m links, half of them of version 2. Every second one without members is of
+/// no bytes.
+fn set_file(case: &mut Case, kind: &Kind, n: usize, m: usize) -> Kinded {
     let network = network(&mut case.draw, kind, n, m);
-    case.kind = format!("{}, n {}, m {}", kind.name, network.n, network.links.len());
-    case.file = encode(&network);
-    if network.n == 0 && case.draw.one_in(2) {
+    let network = perhaps_with_kinds(&mut case.draw, &network);
+    let (version, m) = (network.version, network.links.len());
+    case.kind = format!("{}, version {version}, n {n}, m {m}", kind.name);
+    case.file = network.encode();
+    if n == 0 && case.draw.one_in(2) {
         case.kind += ", as no bytes";
         case.file.clear();
     }
@@ -58,9 +62,18 @@ pub fn largest_file(case: &mut Case) {
 }
 
 /// Makes the case's file; its network.
-pub fn drawn(case: &mut Case, set_file: fn(&mut Case)) -> Network {
+pub fn drawn(case: &mut Case, set_file: fn(&mut Case)) -> Kinded {
     set_file(case);
     read(&case.file).expect("the file of a network")
+}
+
+/// Makes the case's file, in which every link weighs 1; its network.
+pub fn drawn_light(case: &mut Case, set_file: fn(&mut Case)) -> Kinded {
+    let network = light(drawn(case, set_file));
+    if !case.file.is_empty() {
+        case.file = network.encode();
+    }
+    network
 }
 
 /// Puts the links of the case's accepted file in an order that descends, where there are two; whether there are.
@@ -69,7 +82,7 @@ pub fn disorder_file(case: &mut Case) -> bool {
         Ok(mut network) if network.links.len() >= 2 => {
             disorder(&mut case.draw, &mut network.links);
             case.kind += ", in another order";
-            case.file = encode(&network);
+            case.file = network.encode();
             true
         }
         _ => false,
@@ -77,7 +90,7 @@ pub fn disorder_file(case: &mut Case) -> bool {
 }
 
 /// A network with at least 2 members and 4 links, so that every fault fits in; mostly small, now and then large.
-pub fn roomy_network(case: &mut Case) -> Network {
+pub fn roomy_network(case: &mut Case) -> Kinded {
     let large = case.draw.one_in(20);
     loop {
         let kind = &KINDS[case.draw.below(KINDS.len())];
@@ -115,7 +128,7 @@ pub fn full(case: &mut Case) {
 }
 
 /// Every call on the case's accepted file, then on the same links in another order: 15 refuses it, and the conversion gives the accepted
-/// file back.
+/// file back, where that is of version 1.
 fn try_orders(case: &mut Case) {
     try_all(case);
     let accepted = case.file.clone();
@@ -123,8 +136,13 @@ fn try_orders(case: &mut Case) {
         let refusal = lent::check(&case.file).refusal;
         case.compare(|| "check: in another order".into(), 15, refusal);
         let mut converted = vec![0; accepted.len()];
-        lent::order(&case.file, &mut converted);
-        case.compare(|| "order: the accepted file".into(), accepted, converted);
+        let refusal = lent::order(&case.file, &mut converted).refusal;
+        let wanted = match case.version() {
+            1 => (0, accepted),
+            _ => (3, vec![0; accepted.len()]),
+        };
+        let given = (refusal, converted);
+        case.compare(|| "order: the accepted file".into(), wanted, given);
         try_all(case);
     }
 }

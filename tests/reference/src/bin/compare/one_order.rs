@@ -3,12 +3,13 @@ use crate::calls::try_check;
 use crate::case::Case;
 use crate::enumerate::of_picture;
 use crate::kinds::disorder;
+use crate::link_kinds::{with_kinds_of, KINDS};
 use cogsplice::lent;
-use networks::{encode, Link, Network};
+use networks::{Kinded, Vouch};
 use std::collections::HashSet;
 
 /// All orders of some links.
-fn all_orders(links: &[Link]) -> Vec<Vec<Link>> {
+fn all_orders(links: &[Vouch]) -> Vec<Vec<Vouch>> {
     if links.is_empty() {
         return vec![Vec::new()];
     }
@@ -22,8 +23,7 @@ fn all_orders(links: &[Link]) -> Vec<Vec<Link>> {
 }
 
 /// Orders of a network's links: all of them for up to 5 links, else the ascending one and 20 that descend.
-fn orders(case: &mut Case, network: &Network) -> Vec<Network> {
-    let n = network.n;
+fn orders(case: &mut Case, network: &Kinded) -> Vec<Kinded> {
     let mut orders = vec![network.links.clone(); 21];
     if network.links.len() <= 5 {
         orders = all_orders(&network.links);
@@ -32,21 +32,30 @@ fn orders(case: &mut Case, network: &Network) -> Vec<Network> {
         descending.for_each(|links| disorder(&mut case.draw, links));
     }
     let orders = orders.into_iter();
-    orders.map(|links| Network { n, links }).collect()
+    orders
+        .map(|links| Kinded {
+            links,
+            ..network.clone()
+        })
+        .collect()
 }
 
-/// Of the orders of the links exactly the ascending one is accepted, and the conversion of each gives that one.
-pub fn try_one_order(case: &mut Case, network: &Network) {
-    let ascending = encode(network);
+/// Of the orders of the links exactly the ascending one is accepted, and the conversion of each gives that one in version 1.
+pub fn try_one_order(case: &mut Case, network: &Kinded) {
+    let ascending = network.encode();
+    let wanted = match network.version {
+        1 => (0, ascending.clone()),
+        _ => (3, vec![0; ascending.len()]),
+    };
     let orders = orders(case, network);
     let mut accepted = Vec::new();
     for order in &orders {
-        case.file = encode(order);
+        case.file = order.encode();
         try_check(case);
         let mut converted = vec![0; ascending.len()];
         let refusal = lent::order(&case.file, &mut converted).refusal;
-        let given = (refusal, &converted);
-        case.compare(|| "order: ascending".into(), (0, &ascending), given);
+        let given = (refusal, converted);
+        case.compare(|| "order: ascending".into(), &wanted, &given);
         if lent::check(&case.file).refusal == 0 {
             accepted.push(case.file.clone());
         }
@@ -56,19 +65,43 @@ pub fn try_one_order(case: &mut Case, network: &Network) {
     try_equal_bytes(case, network, orders);
 }
 
-/// An accepted file with the same n holds the same links exactly when its bytes are equal: these orders of the same links, and the files of
-/// all pictures for n up to 3, else of 50 drawn ones.
-fn try_equal_bytes(case: &mut Case, network: &Network, mut others: Vec<Network>) {
+/// The network with each kind at each link in turn.
+fn other_kinds(network: &Kinded) -> Vec<Kinded> {
+    let with = |e: usize, kind| {
+        let mut other = network.clone();
+        other.links[e].1 = kind;
+        other
+    };
+    let mut others = Vec::new();
+    for e in 0..network.links.len() {
+        others.extend((0..KINDS).map(|kind| with(e, kind)));
+    }
+    others
+}
+
+/// An accepted file of the same version with the same n holds the same links with the same kinds exactly when its bytes are equal: these
+/// orders of the same links, the files of all pictures for n up to 3, else of 50 drawn ones, and in version 2 each link of each kind.
+fn try_equal_bytes(case: &mut Case, network: &Kinded, mut others: Vec<Kinded>) {
     let n = network.n;
     let pictures = 1 << (n * n);
-    match n {
-        0..=3 => others.extend((0..pictures).map(|picture| of_picture(n, picture))),
-        _ => others.extend((0..50).map(|_| of_picture(n, case.draw.below(pictures)))),
+    let drawn: Vec<usize> = match n {
+        0..=3 => (0..pictures).collect(),
+        _ => (0..50).map(|_| case.draw.below(pictures)).collect(),
+    };
+    for picture in drawn {
+        let other = of_picture(n, picture);
+        others.push(match network.version {
+            1 => Kinded::from(&other),
+            _ => with_kinds_of(&mut case.draw, &other, network),
+        });
     }
-    let held = |network: &Network| network.links.iter().copied().collect::<HashSet<Link>>();
+    if network.version == 2 {
+        others.extend(other_kinds(network));
+    }
+    let held = |network: &Kinded| network.links.iter().copied().collect::<HashSet<Vouch>>();
     let links = held(network);
-    let agrees = |other: &Network| {
-        let file = encode(other);
+    let agrees = |other: &Kinded| {
+        let file = other.encode();
         let accepted = lent::check(&file).refusal == 0;
         !accepted || (held(other) == links) == (file == case.file)
     };

@@ -1,10 +1,10 @@
-//! The numbers 9, 11 and 12 alone, together, and together with each of 1 to 8 and 15: the first in order refuses.
+//! The numbers 9, 11 and 12 alone, together, and together with each of 1 to 8, 22 and 15: the first in order refuses.
 use crate::case::Case;
 use crate::damage::{by_old_rule, faulty_file, FILE_FAULTS};
 use crate::inside::{everyone, lend, Groups};
 use crate::networks::roomy_network;
 use cogsplice::lent;
-use networks::Network;
+use networks::Kinded;
 use reference::{file_length, first_of, work_length};
 
 /// What a call is given beside the file of one network: the tables, each of exactly the length needed or one short, and a number.
@@ -20,12 +20,12 @@ struct Given {
 }
 
 impl Given {
-    fn new(network: &Network) -> Given {
+    fn new(network: &Kinded) -> Given {
         let (n, m) = (network.n, network.links.len());
         Given {
             inside: everyone(n),
             groups: everyone(n),
-            out: vec![0; file_length(m)],
+            out: vec![0; file_length(network.version, m)],
             starts: [vec![0; n + 1], vec![0; n + 1]],
             rows: [vec![0; m], vec![0; m]],
             layers: vec![0; m],
@@ -164,7 +164,7 @@ const CALLS: [Call; 11] = [
     },
 ];
 
-/// The conversion, for which 15 is no fault of a file.
+/// The conversion, for which 15 is no fault of a file, and version 2 is one.
 const CONVERSION: Call = Call {
     name: "order",
     shorten: &[SHORT_OUT],
@@ -192,12 +192,14 @@ fn finding(file: &[u8], given: &mut Given) -> u16 {
 pub fn order(case: &mut Case) {
     let network = roomy_network(case);
     try_calls(case, &network, &FILE_FAULTS);
-    // 7, 8 and 15 are faults of links.
-    try_calls(case, &Network::new(network.n, &[]), &FILE_FAULTS[..6]);
+    // 7 and what comes after it are faults of links.
+    let mut without = network;
+    without.links.clear();
+    try_calls(case, &without, &FILE_FAULTS[..6]);
 }
 
 /// Every call on the network's file, faulty by none or by each of the numbers.
-fn try_calls(case: &mut Case, network: &Network, faults: &[u16]) {
+fn try_calls(case: &mut Case, network: &Kinded, faults: &[u16]) {
     for &fault in [0].iter().chain(faults) {
         case.file = faulty_file(&mut case.draw, network, &[fault]);
         try_every_call(case, network, fault);
@@ -205,15 +207,16 @@ fn try_calls(case: &mut Case, network: &Network, faults: &[u16]) {
 }
 
 /// Every call on the case's file, which is the network's but for this fault, or none.
-pub fn try_every_call(case: &mut Case, network: &Network, fault: u16) {
+pub fn try_every_call(case: &mut Case, network: &Kinded, fault: u16) {
     for call in &CALLS {
         try_call(case, network, call, fault);
     }
-    try_call(case, network, &CONVERSION, by_old_rule(fault));
+    let by_old_rule = by_old_rule(&case.file, &[fault]);
+    try_call(case, network, &CONVERSION, by_old_rule);
 }
 
 /// One call: of the file's fault, 9 where a table is short, and the numbers for what else is faulty, the first in order is given.
-fn try_call(case: &mut Case, network: &Network, call: &Call, fault: u16) {
+fn try_call(case: &mut Case, network: &Kinded, call: &Call, fault: u16) {
     for choice in 0..1 << call.spoil.len() {
         let chosen = (0..call.spoil.len()).filter(|number| choice >> number & 1 == 1);
         let spoilt: Vec<Spoil> = chosen.map(|number| call.spoil[number]).collect();

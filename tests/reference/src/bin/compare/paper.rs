@@ -1,5 +1,7 @@
 //! The examples and limits that the papers name, and the layers and harmonic pairs of these examples, W among some members and links in and
 //! out of order as worked out by hand, by the reference and by the library.
+mod kinds;
+
 use crate::calls::try_all;
 use crate::case::Case;
 use crate::damage::by_old_rule;
@@ -8,7 +10,7 @@ use cogsplice::lent::{
     self, CheckNumbers, FindingNumbers, LayersNumbers, LevelNumbers, TotalsNumbers, WriteNumbers,
 };
 use networks::{encode, Link, Network};
-use reference::{file_length, report, work_length};
+use reference::{report, work_length};
 
 /// What 01 prints for network W.
 const W_REPORT: &str = "x 2 y 3 equal 2\nlinks 6 vouchers 3 vouched 2\nS 0 1 2\nT 3 4\n";
@@ -146,6 +148,7 @@ pub fn paper(case: &mut Case) {
     expect_short(case);
     expect_limits(case);
     expect_orders(case);
+    kinds::kinds(case);
 }
 
 /// An even pair comes before a star of the same product: 02's example, and the rings [1,12], [2,6], [3,4], [4,3], [6,2] and [12,1].
@@ -222,7 +225,7 @@ fn with_tables<A>(n: usize, call: impl FnOnce(&mut [u8], &mut [u8]) -> A) -> (A,
     (answer, groups)
 }
 
-/// E, S and T of the [x,y]-core of W inside A and B.
+/// E, S and T of the [x,y]-core inside A and B.
 fn expect_core(
     case: &mut Case,
     groups: &Groups,
@@ -231,8 +234,9 @@ fn expect_core(
     s: &[usize],
     t: &[usize],
 ) {
-    let (mut lent_s, mut lent_t) = (vec![0; 6], vec![0; 6]);
-    let mut work = vec![0; work_length(6, 8)];
+    let (n, m) = case.claimed();
+    let (mut lent_s, mut lent_t) = (vec![0; n], vec![0; n]);
+    let mut work = vec![0; work_length(n, m)];
     let expected = totals(edges, s, t);
     let inside = lend(groups);
     let plain = reference::core(
@@ -257,14 +261,15 @@ fn expect_core(
     case.compare(|| format!("core {x} {y}"), &wanted, &(given, found));
 }
 
-/// Levels of W inside A and B, as P5 gives them for everyone: numbers with their levels, then numbers with their levels across.
+/// Levels inside A and B, as P5 gives them of W for everyone: numbers with their levels, then numbers with their levels across.
 fn expect_levels(
     case: &mut Case,
     groups: &Groups,
     levels: &[(u16, usize)],
     across: &[(u16, usize)],
 ) {
-    let mut work = vec![0; work_length(6, 8)];
+    let (n, m) = case.claimed();
+    let mut work = vec![0; work_length(n, m)];
     let answer = |level| LevelNumbers {
         refusal: 0,
         link: 0,
@@ -418,7 +423,7 @@ fn expect_written(
         link,
         m: if refusal == 0 { m } else { 0 },
     };
-    let mut out = vec![7; file_length(m) + 1];
+    let mut out = vec![7; case.claimed_length() + 1];
     let mut wanted = out.clone();
     wanted[..file.len()].copy_from_slice(file);
     let given = write(&case.file, &mut out);
@@ -429,7 +434,7 @@ fn expect_written(
 fn expect_orders(case: &mut Case) {
     for (links, refusal, ordered) in ORDERS {
         expect_check(case, refusal, PLENTY, links);
-        let (refusal, file) = match by_old_rule(refusal.0) {
+        let (refusal, file) = match by_old_rule(&case.file, &[refusal.0]) {
             0 => ((0, 0), encode(&Network::new(PLENTY, ordered))),
             _ => (refusal, Vec::new()),
         };
@@ -471,6 +476,11 @@ fn expect_limits(case: &mut Case) {
 /// The refusal and the link's number of a check.
 fn expect_check(case: &mut Case, refusal: (u16, u16), n: usize, links: &[Link]) {
     set(case, &format!("n {n}, m {}", links.len()), n, links);
+    expect_refusal(case, refusal);
+}
+
+/// The refusal and the link's number of the check of the case's file.
+fn expect_refusal(case: &mut Case, refusal: (u16, u16)) {
     let plain = reference::check(&case.file);
     case.compare(
         || "check: reference".into(),

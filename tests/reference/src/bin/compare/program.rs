@@ -6,7 +6,7 @@ use crate::networks::{
 };
 use crate::paper::example_file;
 use networks::Draw;
-use reference::{convert, report, INPUT};
+use reference::{convert, report, INPUT, OLD_INPUT};
 use std::env;
 use std::io::{ErrorKind, Result, Write};
 use std::path::PathBuf;
@@ -83,9 +83,9 @@ fn over_long(case: &mut Case) {
     if case.draw.one_in(2) {
         disorder_file(case);
     }
-    let length = case
-        .draw
-        .pick(&[INPUT - 1, INPUT, INPUT + 1, 40_000, 70_000, 300_000]);
+    let most = case.draw.pick(&[INPUT, OLD_INPUT]);
+    let lengths = [most - 1, most, most + 1, most + 30_000, 300_000];
+    let length = case.draw.pick(&lengths);
     let more = length.saturating_sub(case.file.len());
     case.file.extend(case.draw.bytes(more));
     case.kind += &format!(", lengthened to {length}");

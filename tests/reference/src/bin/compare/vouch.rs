@@ -1,4 +1,4 @@
-//! What one link more moves: in the file with it every level, level across and equal level is the one before or one more, inside any A and
+//! What one link more moves where every link weighs 1, in version 1 and with kinds 0 and 1: in the file with it every level, level across and equal level is the one before or one more, inside any A and
 //! B. This is held to the library's own answers, whatever the reference gives.
 mod examples;
 mod large;
@@ -6,10 +6,11 @@ mod large;
 use crate::case::Case;
 use crate::enumerate::{of_picture, pictured};
 use crate::inside::{everyone, lend, lent_groups, Groups};
-use crate::networks::{drawn, full_file, largest_file, medium_file, small_file};
+use crate::link_kinds::{light, perhaps_with_kinds};
+use crate::networks::{drawn_light, full_file, largest_file, medium_file, small_file};
 use crate::table::Table;
 use cogsplice::lent::{self, CheckNumbers, LevelNumbers};
-use networks::{all_links, encode, Link, Network};
+use networks::{all_links, Draw, Kinded, Link, Network};
 use reference::work_length;
 use std::mem;
 
@@ -87,22 +88,28 @@ fn groups_to_try(case: &mut Case, n: usize) -> Vec<Groups> {
     vec![everyone(n), drawn]
 }
 
-/// The network with an absent link more, in the order of the file.
-fn with_link(network: &Network, link: Link) -> Network {
+/// Where a network has a link, or where it would stand.
+fn place_of(network: &Kinded, link: Link) -> Result<usize, usize> {
+    network.links.binary_search_by_key(&link, |vouch| vouch.0)
+}
+
+/// The network with an absent link more, in the order of the file. In version 2 it is of kind 0 or 1.
+fn with_link(draw: &mut Draw, network: &Kinded, link: Link) -> Kinded {
     let mut more = network.clone();
-    let place = more
-        .links
-        .binary_search(&link)
-        .unwrap_or_else(|place| place);
-    more.links.insert(place, link);
+    let place = place_of(network, link).unwrap_or_else(|place| place);
+    let kind = match network.version {
+        2 => draw.below(2) as u8,
+        _ => 0,
+    };
+    more.links.insert(place, (link, kind));
     more
 }
 
 /// Every link between members that the network lacks.
-fn absent(network: &Network) -> Vec<Link> {
+fn absent(network: &Kinded) -> Vec<Link> {
     let members: Vec<usize> = (0..network.n).collect();
     let mut links = all_links(&members, &members);
-    links.retain(|link| network.links.binary_search(link).is_err());
+    links.retain(|&link| place_of(network, link).is_err());
     links
 }
 
@@ -162,13 +169,13 @@ fn inside(call: &Call, question: &Question) -> String {
 /// before or one more.
 fn try_link(
     case: &mut Case,
-    network: &Network,
+    network: &Kinded,
     link: Link,
     questions: &[Question],
     before: &[Vec<usize>],
 ) -> Vec<Vec<usize>> {
-    let more = with_link(network, link);
-    let file = mem::replace(&mut case.file, encode(&more));
+    let more = with_link(&mut case.draw, network, link);
+    let file = mem::replace(&mut case.file, more.encode());
     let accepted = CheckNumbers {
         refusal: 0,
         link: 0,
@@ -199,7 +206,7 @@ fn try_rises(case: &mut Case, link: Link, question: &Question, before: &[usize],
 }
 
 /// Each of these absent links alone, in the network of the case's file.
-fn try_links(case: &mut Case, network: &Network, links: &[Link], questions: &[Question]) {
+fn try_links(case: &mut Case, network: &Kinded, links: &[Link], questions: &[Question]) {
     let before = all_levels(case, questions);
     for &link in links {
         try_link(case, network, link, questions, &before);
@@ -210,10 +217,10 @@ fn try_links(case: &mut Case, network: &Network, links: &[Link], questions: &[Qu
 /// above that of its links.
 fn try_picture(case: &mut Case) {
     let (n, picture) = pictured(case);
-    let network = of_picture(n, picture);
+    let network = light(perhaps_with_kinds(&mut case.draw, &of_picture(n, picture)));
     let m = network.links.len();
-    case.kind = format!("picture, n {n}, m {m}");
-    case.file = encode(&network);
+    case.kind = format!("picture, version {}, n {n}, m {m}", network.version);
+    case.file = network.encode();
     let group = |bits: usize| (0..n).map(|member| (bits >> member & 1) as u8).collect();
     let pairs = (0..1 << (2 * n)).map(|bits| [group(bits), group(bits >> n)]);
     let groups = match n {
@@ -227,7 +234,7 @@ fn try_picture(case: &mut Case) {
 
 /// All absent links of a small network.
 fn try_small(case: &mut Case) {
-    let network = drawn(case, small_file);
+    let network = drawn_light(case, small_file);
     let n = network.n;
     let groups = groups_to_try(case, n);
     let mut numbers: Vec<u16> = (1..=n as u16 + 1).collect();
@@ -239,7 +246,7 @@ fn try_small(case: &mut Case) {
 /// From no links to all of them, one at a time, in order, back to front or in a drawn order: after k links no level is above k.
 fn try_steps(case: &mut Case) {
     let n = case.draw.among(1, 5);
-    let mut network = Network::new(n, &[]);
+    let mut network = perhaps_with_kinds(&mut case.draw, &Network::new(n, &[]));
     let mut links = absent(&network);
     match case.draw.below(3) {
         0 => (),
@@ -247,7 +254,7 @@ fn try_steps(case: &mut Case) {
         _ => case.draw.shuffle(&mut links),
     }
     case.kind = format!("one link at a time, n {n}");
-    case.file = encode(&network);
+    case.file = network.encode();
     let groups = groups_to_try(case, n);
     let numbers: Vec<u16> = (1..=n as u16 + 1).collect();
     let questions = questions(groups, &numbers);
@@ -257,8 +264,8 @@ fn try_steps(case: &mut Case) {
         let above = levels.iter().flatten().find(|&&level| level > k);
         case.compare(|| format!("no level is above {k}"), None, above);
         levels = try_link(case, &network, link, &questions, &levels);
-        network = with_link(&network, link);
-        case.file = encode(&network);
+        network = with_link(&mut case.draw, &network, link);
+        case.file = network.encode();
     }
 }
 

@@ -3,14 +3,14 @@ use super::{expect, refused, try_files};
 use crate::case::Case;
 use crate::damage::{change_bytes, faulty_file, FILE_FAULTS};
 use crate::networks::{roomy_network, small_file};
-use networks::{Draw, Network};
+use networks::{Draw, Kinded};
 use reference::{check, first_of};
 
 /// A network's file, and the number that refuses it, or 0.
 type Spoilt = (Vec<u8>, u16);
 
 /// The file of a network with this fault, now and then with another one too; without any for 0.
-fn spoilt(draw: &mut Draw, network: &Network, fault: u16) -> Spoilt {
+fn spoilt(draw: &mut Draw, network: &Kinded, fault: u16) -> Spoilt {
     let mut faults = vec![fault];
     if fault > 0 && draw.one_in(3) {
         faults.push(draw.pick(&FILE_FAULTS));
@@ -18,7 +18,7 @@ fn spoilt(draw: &mut Draw, network: &Network, fault: u16) -> Spoilt {
     (faulty_file(draw, network, &faults), first_of(&faults))
 }
 
-fn over_another_n(case: &mut Case, n: usize) -> Network {
+fn over_another_n(case: &mut Case, n: usize) -> Kinded {
     loop {
         let network = roomy_network(case);
         if network.n != n {

@@ -1,11 +1,11 @@
 //! Two networks of any size over one n: one network's links shared out between them in many ways, and others that are like it; and the same
 //! links over n that differ.
-use super::{expect, expect_common, refused, try_files};
+use super::{expect, expect_common, other_record, refused, try_files, weighs_as};
 use crate::case::Case;
 use crate::kinds::{network, KINDS};
 use crate::networks::{drawn, full_file, largest_file, medium_file, small_file};
-use networks::{encode, Draw, Link, Network};
-use reference::{file_length, MEMBERS};
+use networks::{Draw, Kinded, Link, Network};
+use reference::MEMBERS;
 
 /// Where a link is.
 #[derive(Clone, Copy, PartialEq)]
@@ -82,16 +82,29 @@ fn common_where(draw: &mut Draw, here: bool) -> Share {
     }
 }
 
-fn try_split(case: &mut Case, network: &Network, (what, share): &Split) {
+/// The network of the links that go to one of these.
+fn kept(network: &Kinded, shares: &[Share], here: &[Share]) -> Kinded {
+    let links = network.links.iter().zip(shares);
+    let links = links.filter(|(_, share)| here.contains(share));
+    Kinded {
+        links: links.map(|(&vouch, _)| vouch).collect(),
+        ..network.clone()
+    }
+}
+
+/// The second file may have other kinds: a link that is in either with another weight is in neither's share of both.
+fn try_split(case: &mut Case, network: &Kinded, (what, share): &Split) {
     let m = network.links.len();
     let shares: Vec<Share> = (0..m).map(|e| share(&mut case.draw, e, m)).collect();
-    let [both, first, second] = [&[Both][..], &[Both, First], &[Both, Second]].map(|kept| {
-        let links = network.links.iter().zip(&shares);
-        let links = links.filter(|(_, share)| kept.contains(share));
-        Network {
-            n: network.n,
-            links: links.map(|(&link, _)| link).collect(),
-        }
+    let other = other_record(&mut case.draw, &network.plain(), network);
+    let first = kept(network, &shares, &[Both, First]);
+    let second = kept(&other, &shares, &[Both, Second]);
+    let mut both = network.clone();
+    let places = shares.iter().zip(&other.links);
+    let mut shared = places.map(|(share, other)| (*share == Both, *other));
+    both.links.retain(|vouch| {
+        let (is_shared, other) = shared.next().expect("as many links");
+        is_shared && weighs_as(vouch.1, other.1)
     });
     expect_common(case, what, [&first, &second], &both);
 }
@@ -99,7 +112,8 @@ fn try_split(case: &mut Case, network: &Network, (what, share): &Split) {
 /// Links that are like those of a network, over its members.
 type Like = (&'static str, fn(&mut Draw, &Network) -> Vec<Link>);
 
-static LIKES: [Like; 5] = [
+static LIKES: [Like; 6] = [
+    ("the same", |_, network| network.links.clone()),
     ("turned round", |_, network| {
         network.links.iter().map(|&(a, b)| (b, a)).collect()
     }),
@@ -131,18 +145,19 @@ fn changed_bit(draw: &mut Draw, n: usize, (a, b): Link) -> Link {
     }
 }
 
-fn try_like(case: &mut Case, first: &Network, (what, like): &Like) {
-    let mut links = like(&mut case.draw, first);
+fn try_like(case: &mut Case, first: &Kinded, (what, like): &Like) {
+    let mut links = like(&mut case.draw, &first.plain());
     links.sort();
     links.dedup();
-    let second = encode(&Network { n: first.n, links });
-    try_files(case, what, [&encode(first), &second]);
+    let second = Network { n: first.n, links };
+    let second = other_record(&mut case.draw, &second, first);
+    try_files(case, what, [&first.encode(), &second.encode()]);
 }
 
 /// The same links over another n: 21, with any output. So it is where the numbers differ in the higher byte alone.
-fn try_other_n(case: &mut Case, network: &Network) {
+fn try_other_n(case: &mut Case, network: &Kinded) {
     let n = network.n;
-    let fewest = network.links.iter().map(|&(a, b)| a.max(b) + 1).max();
+    let fewest = network.links.iter().map(|&((a, b), _)| a.max(b) + 1).max();
     let any = case.draw.below(MEMBERS + 1);
     for other_n in [
         n + 1,
@@ -156,12 +171,12 @@ fn try_other_n(case: &mut Case, network: &Network) {
         if other_n != n && (fewest.unwrap_or(0)..=MEMBERS).contains(&other_n) {
             let mut other = network.clone();
             other.n = other_n;
-            let [one, other] = [network, &other].map(encode);
+            let [one, other] = [network, &other].map(Kinded::encode);
             expect_other_n(case, [&one, &other]);
             expect_other_n(case, [&other, &one]);
         }
     }
-    let file = encode(network);
+    let file = network.encode();
     if n > 0 {
         expect_other_n(case, [&file, &[]]);
         expect_other_n(case, [&[], &file]);
@@ -170,7 +185,7 @@ fn try_other_n(case: &mut Case, network: &Network) {
 
 fn expect_other_n(case: &mut Case, files: [&[u8]; 2]) {
     let enough = files[0].len().max(files[1].len());
-    for length in [enough, file_length(0) - 1, 0] {
+    for length in [enough, 8, 0] {
         expect(case, "another n", files, length, refused(21, 0));
     }
 }

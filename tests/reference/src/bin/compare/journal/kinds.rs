@@ -1,7 +1,7 @@
 //! Journals of many kinds, and journals in which all members enter what they may.
 use super::try_journal;
 use crate::case::Case;
-use crate::kinds::{disorder, network, KINDS};
+use crate::kinds::{network, KINDS};
 use networks::{add, encode_journal, return_to, set, withdraw, Draw, Entry, Link};
 use reference::{DUE, GIVEN, LINKS, MEMBERS};
 use std::cmp::Reverse;
@@ -140,8 +140,8 @@ fn network_links(draw: &mut Draw) -> Journal {
     let kind = &KINDS[draw.below(KINDS.len())];
     let n = draw.among(1, 30);
     let mut links = network(draw, kind, n, 200).links;
-    if links.len() > 1 && draw.one_in(2) {
-        disorder(draw, &mut links);
+    if draw.one_in(2) {
+        draw.shuffle(&mut links);
     }
     let mut entries = Vec::new();
     for (place, &link) in links.iter().enumerate() {

@@ -2,7 +2,7 @@
 use super::{all_levels, questions, try_link};
 use crate::case::Case;
 use crate::inside::{everyone, Groups};
-use networks::{encode, Link, Network};
+use networks::{Kinded, Link, Network, Vouch};
 
 /// A level without the link, and with it.
 type Move = [usize; 2];
@@ -142,17 +142,28 @@ impl Example {
     }
 }
 
-/// The examples, by the reference and by the library.
+/// The examples, by the reference and by the library, in version 1 and with kinds 0 and 1 by turns.
 pub fn examples(case: &mut Case) {
     for example in &EXAMPLES {
-        let network = Network::new(example.n, example.links);
-        case.kind = format!("the link {:?} by hand", example.link);
-        case.file = encode(&network);
-        let numbers: Vec<u16> = (1..=example.level.len() as u16).collect();
-        let questions = questions(vec![example.groups()], &numbers);
-        let without = all_levels(case, &questions);
-        let with = try_link(case, &network, example.link, &questions, &without);
-        let worked_out = [0, 1].map(|with| vec![example.levels(with)]);
-        case.compare(|| "levels by hand".into(), worked_out, [without, with]);
+        let network = Kinded::from(&Network::new(example.n, example.links));
+        let kinds = [0, 1].into_iter().cycle();
+        let links = network.links.iter().zip(kinds);
+        let links: Vec<Vouch> = links.map(|(vouch, kind)| (vouch.0, kind)).collect();
+        let of_kinds = Kinded::new(example.n, &links);
+        for network in [network, of_kinds] {
+            expect_levels(case, example, &network);
+        }
     }
+}
+
+fn expect_levels(case: &mut Case, example: &Example, network: &Kinded) {
+    let version = network.version;
+    case.kind = format!("the link {:?} by hand, version {version}", example.link);
+    case.file = network.encode();
+    let numbers: Vec<u16> = (1..=example.level.len() as u16).collect();
+    let questions = questions(vec![example.groups()], &numbers);
+    let without = all_levels(case, &questions);
+    let with = try_link(case, network, example.link, &questions, &without);
+    let worked_out = [0, 1].map(|with| vec![example.levels(with)]);
+    case.compare(|| "levels by hand".into(), worked_out, [without, with]);
 }

@@ -1,11 +1,11 @@
 //! Medium and large networks, where a link is more likely to matter between those whom a level is about; and the most links.
-use super::{groups_to_try, questions, try_links, with_link};
+use super::{groups_to_try, place_of, questions, try_links, with_link};
 use crate::case::Case;
 use crate::inside::everyone;
-use crate::networks::drawn;
+use crate::networks::drawn_light;
 use crate::order::try_every_call;
 use cogsplice::lent::{self, CommonNumbers};
-use networks::{encode, Draw, Link, Network};
+use networks::{Draw, Kinded, Link};
 use reference::{work_length, LINKS};
 use std::mem;
 
@@ -54,7 +54,7 @@ impl Found {
     }
 
     /// Absent links between any two members, and between members of the groups found and any.
-    fn links_to_try(&self, draw: &mut Draw, network: &Network) -> Vec<Link> {
+    fn links_to_try(&self, draw: &mut Draw, network: &Kinded) -> Vec<Link> {
         let any = &(0..network.n).collect();
         let ([s, t], [core_s, core_t]) = (&self.finding, &self.core);
         let ends = [
@@ -74,18 +74,18 @@ impl Found {
 }
 
 /// A drawn link that the network lacks, from one of these to one of those, where one is soon met.
-fn absent_between(draw: &mut Draw, network: &Network, s: &[usize], t: &[usize]) -> Option<Link> {
+fn absent_between(draw: &mut Draw, network: &Kinded, s: &[usize], t: &[usize]) -> Option<Link> {
     if s.is_empty() || t.is_empty() {
         return None;
     }
     let mut drawn = (0..50).map(|_| (draw.pick(s), draw.pick(t)));
-    drawn.find(|link| network.links.binary_search(link).is_err())
+    drawn.find(|&link| place_of(network, link).is_err())
 }
 
 /// Takes a drawn link of the core of the equal level out of the network of the case's file.
-fn lose_link(case: &mut Case, network: &mut Network) -> Option<Link> {
+fn lose_link(case: &mut Case, network: &mut Kinded) -> Option<Link> {
     let [s, t] = found(case).core;
-    let links = network.links.iter().copied();
+    let links = network.links.iter().map(|vouch| vouch.0);
     let inside: Vec<Link> = links
         .filter(|(a, b)| s.contains(a) && t.contains(b))
         .collect();
@@ -93,15 +93,15 @@ fn lose_link(case: &mut Case, network: &mut Network) -> Option<Link> {
         return None;
     }
     let lost = case.draw.pick(&inside);
-    network.links.retain(|&link| link != lost);
+    network.links.retain(|vouch| vouch.0 != lost);
     case.kind += ", a link lost";
-    case.file = encode(network);
+    case.file = network.encode();
     Some(lost)
 }
 
 /// Drawn absent links of a network; now and then, and where it has the most links, the one that it has just lost is among them.
 pub fn try_large(case: &mut Case, set_file: fn(&mut Case)) {
-    let mut network = drawn(case, set_file);
+    let mut network = drawn_light(case, set_file);
     let full = network.links.len() == LINKS;
     if full {
         try_no_room(case, &network);
@@ -119,11 +119,12 @@ pub fn try_large(case: &mut Case, set_file: fn(&mut Case)) {
 }
 
 /// With 8,192 links there is nothing to add: every call refuses the file of a link more by 5.
-fn try_no_room(case: &mut Case, network: &Network) {
+fn try_no_room(case: &mut Case, network: &Kinded) {
     let any: Vec<usize> = (0..network.n).collect();
     let link = absent_between(&mut case.draw, network, &any, &any);
-    let more = with_link(network, link.expect("an absent link"));
-    let accepted = mem::replace(&mut case.file, encode(&more));
+    let link = link.expect("an absent link");
+    let more = with_link(&mut case.draw, network, link);
+    let accepted = mem::replace(&mut case.file, more.encode());
     try_every_call(case, &more, 5);
     let mut out = vec![0; case.file.len()];
     let files: [&[u8]; 2] = [&accepted, &case.file];

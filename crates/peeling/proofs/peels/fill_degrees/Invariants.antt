@@ -1,8 +1,0 @@
--- `fill_degrees` sets the degree of each place to the length of its row. The loop's invariant: the degrees of the places passed are the lengths
--- of their rows.
-use Rattle.std.proofs.Common.{ℕ, ◌≡◌, ◌<◌, get_or}
-use Rattle.peeling.specs.Peeling.{row_length}
-use Rattle.peeling.proofs.peels.fill_degrees.Given as goal
-
-abbrev pub invariant-loop-place : goal.invariant-loop-place
-invariant-loop-place l = (k : ℕ) → k < l.place → get_or l.degree-items k 0 ≡ row_length l.starts k
