@@ -68,8 +68,8 @@ pub fn least_left(work: &[u16], scope: Scope, rise: Rise, k: usize) -> usize
     usize::from(least)
 }
 
-// The peel of the whole graph for what is asked at the start of a climb or of a search. Where one side rises, much may be asked of it at once: the peel begins
-// with that side.
+// The peel of the whole graph for what is asked at the start of a climb or of a search. Where one side rises, much may be asked of it at once: the
+// peel begins with that side.
 pub fn begin(work: &mut [u16], degrees: &[u16], scope: Scope, rise: Rise) -> Peel
     requires { Weighed scope.extent.order scope.extent.size work.old degrees.now }
     ensures { Ended false scope work.old work.new result }

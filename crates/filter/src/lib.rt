@@ -9,9 +9,9 @@ fn complain(rt: &impl Eprint, name: &str, what: &str) {
     let _ = eprintln!(rt; "{name}: {what}");
 }
 
-// Reads standard input, up to INPUT bytes, has `render` lay a text for it at the start of a buffer of ROOM bytes and answer the text's length, and writes
-// the text in one piece. What cannot be read or written is told on standard error, under the program's name. INPUT is one byte more than the longest
-// file, so that a longer input is seen to be too long.
+// Reads standard input, up to INPUT bytes, has `render` lay a text for it at the start of a buffer of ROOM bytes and answer the text's length, and
+// writes the text in one piece. What cannot be read or written is told on standard error, under the program's name. INPUT is one byte more than the
+// longest file, so that a longer input is seen to be too long.
 pub fn run<const INPUT: usize, const ROOM: usize, F: FnOnce(&[u8], &mut [u8]) -> usize>(
     rt: &HostRuntime,
     name: &str,

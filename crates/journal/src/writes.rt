@@ -8,8 +8,8 @@ ghost use Rattle.journal.specs.Listed.{table_graph, pair_bytes};
 
 use network::{link_at, put_header, put_link, stride};
 
-// Every link, one after the other, of kind 0 (02, wish 13): `put_edges` of calls writes those of a file, by a list of their numbers, and reads each end from
-// bytes.
+// Every link, one after the other, of kind 0 (02, wish 13): `put_edges` of calls writes those of a file, by a list of their numbers, and reads each
+// end from bytes.
 #[tactic(auto, unfolding(graph::specs::Range::flat))]
 fn put_links(set: &[[u16; 2]], out: &mut [u8])
     requires most { length set.now ≤ most_links }

@@ -1,5 +1,5 @@
--- The call with the files exchanged, and of a file with itself: there is one network of the links in both, and of these kinds one file, and the totals are
--- told by the definitions.
+-- The call with the files exchanged, and of a file with itself: there is one network of the links in both, and of these kinds one file, and the
+-- totals are told by the definitions.
 use Prim.Native.Nat.{ℕ, ◌≤◌}
 use mathlib.Core.List.{List, ◌++◌}
 use mathlib.Core.Logic.{◌↔◌}

@@ -22,7 +22,8 @@ fn check_pair<'a>(first: &'a [u8], second: &'a [u8]) -> Result<Pair<'a>, Refusal
     Ok(Pair { first, second })
 }
 
-// 02, wishes 11 and 13: the links in both files, written as a file of version 2 with the first one's kinds, and how many are in both, in the first only and in the second only.
+// 02, wishes 11 and 13: the links in both files, written as a file of version 2 with the first one's kinds, and how many are in both, in the first
+// only and in the second only.
 pub fn common(first: &[u8], second: &[u8], out: &mut [u8]) -> Result<CommonTotals, Refusal>
     ensures { CommonCall first.now second.now out.old out.new result }
 {

@@ -1,5 +1,6 @@
 -- The queue while a place is dropped: a place of its row that loses an edge is pushed where its degree falls from enough to short by that, and else
--- not. It is put past the tail in any case, where it is no part of the queue. Its edges to places not dropped are no more than the degree that is left to it, so it is short among those too.
+-- not. It is put past the tail in any case, where it is no part of the queue. Its edges to places not dropped are no more than the degree that is left
+-- to it, so it is short among those too.
 use Prim.Native.Nat.{ℕ, ◌+◌, ◌-◌, ◌*◌, ◌<◌}
 use mathlib.Core.Bool.{Bool, true, false}
 use mathlib.Core.List.{List}

@@ -11,9 +11,9 @@ use lib.ListN.{length, get_or}
 use Rattle.std.specs.Int.{from_bool}
 use Rattle.graph.specs.Cover as cover
 use Rattle.peeling.specs.declared.Peel.{Peel}
-use Rattle.peeling.specs.Peeling.{start_of, row_length, row_entry, place_in, weight_in, degree_of, Rows, SingleRows, Peeling, Dropping, Kept, across, side_left, pushed_by, falls, lowered_table}
+use Rattle.peeling.specs.Peeling.{start_of, row_length, row_entry, place_in, weight_in, degree_of, Rows, SingleRows, Peeling, Dropping, Kept, across, side_left, pushed_by, pushed, falls, lowered_table}
 use Rattle.peeling.proofs.Kept.{kept_same, kept_next, start-kept, single-kept}
-use Rattle.peeling.proofs.Grown.{pushed-none, pushed-one, left-one}
+use Rattle.peeling.proofs.Grown.{pushed-none, grown-one}
 use Rattle.peeling.proofs.Along.{Along, along-more, along-ends, along-entry, along-at, along-inside, along-next}
 use Rattle.peeling.proofs.Losses.{other, loss, drop-inside, drop-across, drop-some, drop-ends}
 use Rattle.peeling.proofs.Drops.{drop-room, drop-stays, drop-pushes, drop_keeps}
@@ -98,17 +98,18 @@ module _ {n m : ℕ} {need : ℕ → ℕ} {w₀ : List ℕ} {s : Peel} {place k�
         alike : ltb (other g.dropping entry) n ≡ ltb (across n place) n
         alike = across-alike _ _ _ g.dropping.is-place (drop-across g.dropping entry (falls-some _ _ _ fell))
 
-        -- which has one more to take
-        room : 1 ≤ side_left n (pushed_by n s (across n place) count) (across n place)
-        room = rw alike at (drop-room g.dropping entry fell).side
+        -- so it is one more of them
+        one : (pushed n (pushed_by n s (across n place) count) (other g.dropping entry) ≡ pushed_by n s (across n place) (count + 1))
+            × (count + 1 ≤ side_left n s (across n place))
+        one = grown-one n (across n place) count _ s g.few alike (drop-room g.dropping entry fell)
 
         -- and one entry more is passed with one place more in the queue
         pass-pushes : {w' : List ℕ} → w' ≡ lowered_table n m w (s.tail + count) q b → Passing n m need w₀ s place k₀ end w' (count + 1) (k + 1)
         pass-pushes t =
             record {
               along = along-next r g.dropping.is-place g.along l;
-              dropping = rw (t, x, y, is-entry, along-more k k₀ g.along.begun) (rw (alike, pushed-one n (across n place) count s) at (drop-pushes g.dropping entry fell));
-              few = left-one n (across n place) count s g.few room;
+              dropping = rw (t, x, y, is-entry, along-more k k₀ g.along.begun) (rw one.0 at (drop-pushes g.dropping entry fell));
+              few = one.1;
               kept = kept_next g.kept (rw (t, x, y, is-entry) (drop_keeps g.dropping entry));
             }
 

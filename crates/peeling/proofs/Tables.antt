@@ -14,10 +14,6 @@ use Rattle.peeling.specs.Peeling.{start_of, row_length, degree_of, queue_of, Row
 pub start-last : {n m : ℕ} {w : List ℕ} → Rows n m w → (p : ℕ) → p ≤ 2 * n → start_of w p ≤ 2 * m
 start-last {n} {m} {w} r p l = omega (arith, monotone (start_of w) (2 * n) r.ascending p (2 * n) l (le_refl _), r.last)
 
--- nor is the first past that of the targets
-pub start_first : {n m : ℕ} {w : List ℕ} → Rows n m w → start_of w 0 ≤ start_of w n
-start_first {n} {w = w} r = monotone (start_of w) (2 * n) r.ascending 0 n (omega arith) (omega arith)
-
 -- so an entry of a row is one of the rows
 pub row_inside : {n m : ℕ} {w : List ℕ} → Rows n m w → (p i : ℕ) → p < 2 * n → i < row_length w p → start_of w p + i < 2 * m
 row_inside r p i l h = omega (arith, start-last r (p + 1) (omega arith))

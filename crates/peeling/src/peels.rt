@@ -141,8 +141,8 @@ impl Peel {
         }
     }
 
-    // The peel whose queue has so many places of a side more, which stand past the tail already, and whose side has as many less. A side is told by its
-    // first place.
+    // The peel whose queue has so many places of a side more, which stand past the tail already, and whose side has as many less. A side is told by
+    // its first place.
     pub fn grown_by(self, order: usize, first: usize, count: usize) -> Peel
         requires order { order ≤ most_members }
         requires queue { self.tail + count ≤ 2 * order }

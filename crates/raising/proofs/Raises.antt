@@ -13,7 +13,7 @@ use Rattle.peeling.specs.Recounts.{SideAt, OnSide}
 use Rattle.peeling.proofs.Tables.{with-queued-degree}
 use Rattle.peeling.proofs.Kept.{kept_same, degree-kept}
 use Rattle.peeling.proofs.Totals.{total_kept}
-use Rattle.peeling.proofs.Grown.{pushed-none, pushed-one, left-one}
+use Rattle.peeling.proofs.Grown.{pushed-none, grown-one}
 use Rattle.peeling.proofs.Pushes.{Step, step-put, queued-room, queued-stays, queued-grows, full-keeps, full-queue, full-undropped}
 use Rattle.raising.specs.declared.Step.{Step as Raised}
 use Rattle.raising.specs.Steps.{next_of, outgrown, Quiet, Raising, RaisedBy}
@@ -190,16 +190,17 @@ module _ (t : Raised) where
       less : degree_of c.extent.order c.extent.size w i < need_of d i
       less = grind (arith, nat_tests, test)
 
-      -- so the side has one more to take
-      room : 1 ≤ side_left c.extent.order (pushed_by c.extent.order s first count) first
-      room = rw (sym (side-alike side o.0 o.1)) at (raise-room _ _ i inside more k.peeling enough less).side
+      -- so it is one more of the side
+      one : (pushed c.extent.order (pushed_by c.extent.order s first count) i ≡ pushed_by c.extent.order s first (count + 1))
+          × (count + 1 ≤ side_left c.extent.order s first)
+      one = grown-one c.extent.order first count i s k.few (sym (side-alike side o.0 o.1)) (raise-room _ _ i inside more k.peeling enough less)
 
       -- and the place is pushed
       grows : RaisedBy t first (i + 1) (with_queued c.extent.order c.extent.size w (s.tail + count) i) s (count + 1)
       grows =
           record {
-            peeling = rw (sym (side-alike side o.0 o.1), pushed-one c.extent.order first count s) at (raise-pushes _ _ i inside more k.peeling enough less);
-            few = left-one c.extent.order first count s k.few room;
+            peeling = rw one.0 at (raise-pushes _ _ i inside more k.peeling enough less);
+            few = one.1;
           }
 
     -- so one more is pushed where the test holds

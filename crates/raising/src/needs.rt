@@ -137,8 +137,8 @@ fn raise_blocks(start: Peel, work: &mut [u16], step: Step, first: usize) -> Peel
     peel
 }
 
-// Every place of one side, the sources from 0 on or the targets from n on, pushed whose degree is enough before the step, and not after it. Where
-// the side needs what it needed there is none, and no place is looked at. Blocks are passed over where weights make the steps small: at the first step,
+// Every place of one side, the sources from 0 on or the targets from n on, pushed whose degree is enough before the step, and not after it. Where the
+// side needs what it needed there is none, and no place is looked at. Blocks are passed over where weights make the steps small: at the first step,
 // from nothing, and where each edge weighs 1, most blocks have such a place.
 fn raise_side(start: Peel, work: &mut [u16], step: Step, first: usize) -> Peel
     requires side { SideAt step.scope.extent.order first }

@@ -18,8 +18,9 @@ fn gain(work: &mut [u16], scope: Scope, place: usize, weight: u16)
     work[at] += weight;
 }
 
-// For each place of a row the edge that the row has more. The row stands in the table that is written to, so its entries are read by their index. Its bounds are told
-// here as where a row is lowered (peeling, harmonic): a function for them would have to promise of two numbers what `Rows` says at once.
+// For each place of a row the edge that the row has more. The row stands in the table that is written to, so its entries are read by their index. Its
+// bounds are told here as where a row is lowered (peeling, harmonic): a function for them would have to promise of two numbers what `Rows` says at
+// once.
 fn gain_row(work: &mut [u16], scope: Scope, place: usize, single: bool)
     requires rows { Rows scope.extent.order scope.extent.size work.old }
     requires single { single ≡ true → SingleRows scope.extent.order work.old }
