@@ -3,7 +3,7 @@
 // be shown.
 #![tactic(auto)]
 
-ghost use Rattle.std.specs.Prelude.{ℕ, ◌≡◌, ◌+◌, ◌-◌, ◌<◌, ◌≤◌, [], ◌∷◌, ◌++◌, length, take, drop};
+ghost use Rattle.std.specs.Prelude.{ℕ, ◌≡◌, ◌+◌, ◌-◌, ◌*◌, ◌<◌, ◌≤◌, [], ◌∷◌, ◌++◌, length, take, drop};
 ghost use Rattle.std.specs.List.{insert, remove};
 ghost use Rattle.graph.specs.Range.{if};
 ghost use Rattle.linkset.specs.Tables.{
@@ -37,6 +37,15 @@ pub struct Link {
     pub target: u16,
 }
 
+// As one number of 32 bits, which has the same order: so a search compares two links in fewer steps.
+impl From<Link> for u32 {
+    ghost from_gives = { λ link number. number ≡ 65536 * link.source + link.target };
+
+    fn from(link: Link) -> u32 {
+        65536 * u32::from(link.source) + u32::from(link.target)
+    }
+}
+
 // Link `i` of a set.
 fn link_of(set: &[[u16; 2]], i: usize) -> Link
     requires { i < length set.now }
@@ -54,7 +63,7 @@ fn comes_before<const ENDS: usize>(set: &[[u16; 2]], i: usize, link: Link) -> bo
     if ENDS == SOURCE {
         return set[i][0] < link.source;
     }
-    link_of(set, i) < link
+    u32::from(link_of(set, i)) < u32::from(link)
 }
 
 // A quarter of so many links, where a link is left out between each two.

@@ -3,11 +3,12 @@ use Prim.Native.Nat.{ℕ, zero, suc, ◌/◌, ◌%◌, ◌^◌, ◌<◌, ◌≤�
 use mathlib.Core.List.{◌++◌}
 use native.Mathlib.Decide.{dec_le}
 use mathlib.Core.Path.{◌≡◌, sym}
+use native.Mathlib.Nat.{pow-suc}
 use native.Mathlib.Omega.{arith}
 use borrow.Author.Tests.{lt-ltb, le-ltb}
-use lib.ListN.{length}
+use lib.ListN.{length, length-append}
 use Rattle.std.specs.Fmt.{decimal as printed}
-use Rattle.std.proofs.lemmas.Fmt.{AppendsLastDigit, decimal_from_appends, length-decimal-le, length-decimal-le_succ}
+use Rattle.std.proofs.lemmas.Fmt.{AppendsLastDigit, decimal_from_appends, length-decimal-le_succ}
 use Rattle.report.specs.Text.{digit_text, digits_within, decimal}
 
 -- the digits within any number above n are the same
@@ -39,6 +40,19 @@ pub decimal_printed : (n : ℕ) → n < 2 ^ 64 → printed n ≡ decimal n
 unfolding decimal
 decimal_printed n h = sym (decimal_from_appends digits_within last-digit (suc n) n h (omega (arith, length-decimal-le_succ n h)))
 
--- a number below 10 ^ k has at most k digits
-pub decimal-length : (n k : ℕ) → 0 < k → n < 10 ^ k → n < 2 ^ 64 → length (decimal n) ≤ k
-decimal-length n k some l h = rw (← decimal_printed n h) (length-decimal-le k n some l h)
+-- a number below 10 ^ (k + 1) has at most k + 1 digits within any number
+digits-within-length : (most n k : ℕ) → n < 10 ^ suc k → length (digits_within most n) ≤ suc k
+unfolding digits_within
+digits-within-length zero n k l = omega arith
+digits-within-length (suc most) n zero l = rw (lt-ltb n 10 (omega arith)) (omega arith)
+digits-within-length (suc most) n (suc k) l =
+    elim (dec_le 10 n) [
+      | yes h ↦ rw (le-ltb n 10 h, length-append (digits_within most (n / 10)) (digit_text (n % 10)))
+          (omega (arith, digits-within-length most (n / 10) k (omega (arith, pow-suc 10 (suc k)))))
+      | no h ↦ rw (lt-ltb n 10 (omega arith)) (omega arith)
+    ]
+
+-- and in decimal
+pub decimal-length : (n k : ℕ) → n < 10 ^ suc k → length (decimal n) ≤ suc k
+unfolding decimal
+decimal-length n k l = digits-within-length (suc n) n k l

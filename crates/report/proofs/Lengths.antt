@@ -15,10 +15,10 @@ use Rattle.report.proofs.Decimal.{decimal-length}
 
 -- a label with a number of 64 bits
 label-longest : (word : List ℕ) (n : ℕ) → n < 2 ^ 64 → length (label word n) ≤ length word + 21
-label-longest word n l = omega (arith, length-append word (spaced n), decimal-length n 20 (omega arith) (omega arith) l)
+label-longest word n l = omega (arith, length-append word (spaced n), decimal-length n 19 (omega arith))
 
 -- a line of three labels
-labels_length : (first : List ℕ) (a : ℕ) (second : List ℕ) (b : ℕ) (third : List ℕ) (c : ℕ)
+pub labels_length : (first : List ℕ) (a : ℕ) (second : List ℕ) (b : ℕ) (third : List ℕ) (c : ℕ)
     → length (labels_text first a second b third c) ≡ length (label first a) + length (label second b) + length (label third c) + 1
 unfolding labels_text
 labels_length first a second b third c =
@@ -40,7 +40,7 @@ member-longest : (group : List ℕ) (u : ℕ) → u < 10000 → length (member_t
 member-longest group u l = go (group_of group u)
   where
     go : (b : Bool) → length (cond b (spaced u) []) ≤ 5
-    go true = omega (arith, decimal-length u 4 (omega arith) l (omega arith))
+    go true = omega (arith, decimal-length u 3 l)
     go false = omega arith
 
 -- the members below n
@@ -85,8 +85,8 @@ numbers_longest k x y equal edges sources targets =
 link-longest : (l : Option ℕ) → IfSome l (λ e. e < 2 ^ 16) → length (link_text l) ≤ 9
 unfolding link_text
 link-longest None h = omega arith
-link-longest (Some e) h = omega (arith, decimal-length e 5 (omega arith) (omega arith) (omega arith))
+link-longest (Some e) h = omega (arith, decimal-length e 4 (omega arith))
 
 -- its line: the word, the number, the link and the end
 pub refusal_room : (k : ℕ) (l : Option ℕ) → k < 2 ^ 16 → IfSome l (λ e. e < 2 ^ 16) → 9 + length (decimal k) + length (link_text l) ≤ longest_refusal
-refusal_room k l h i = omega (arith, decimal-length k 5 (omega arith) (omega arith) (omega arith), link-longest l i)
+refusal_room k l h i = omega (arith, decimal-length k 4 (omega arith), link-longest l i)

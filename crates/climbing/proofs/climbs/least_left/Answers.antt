@@ -1,4 +1,4 @@
-use Rattle.std.proofs.Common.{◌≡◌, ℕ, ◌+◌, ◌-◌, ◌*◌, ◌<◌, ◌≤◌, Bool, true, cond, ◌&&◌, leb, ltb, min, ◌⊎◌, inl, inr, List, Result, Ok, Err, take, drop, length, get_or, ap, sym, ◌∙◌, le_trans, arith, le-leb}
+use Rattle.std.proofs.Common.{◌≡◌, ℕ, ◌+◌, ◌-◌, ◌*◌, ◌<◌, ◌≤◌, Bool, true, cond, ◌&&◌, leb, ltb, min, List, Result, Ok, Err, take, drop, length, get_or, ap, sym, ◌∙◌, le_trans, arith, le-leb}
 use native.Mathlib.Decide.{dec_lt}
 use Rattle.std.proofs.lemmas.Bool.Decides.{nat_tests}
 use borrow.Author.Tests.{lt-leb}
@@ -37,7 +37,7 @@ rests-inside c rise w k a f e needed p l h = (
 )
 
 -- the lesser of `least` and a degree that counts only where it is at least k
-counts : (k d least counted : ℕ) → least < 65536 → ((d < k) × (counted ≡ 65535)) ⊎ ((k ≤ d) × (counted ≡ d)) → min least counted ≡ cond (leb k d && ltb d least) d least
+counts : (k d least counted : ℕ) → least < 65536 → (d < k → counted ≡ 65535) × (k ≤ d → counted ≡ d) → min least counted ≡ cond (leb k d && ltb d least) d least
 counts k d least counted top h = grind (arith, nat_tests)
 
 -- k in 16 bits, or the greatest number of these where it is greater
@@ -70,13 +70,16 @@ placed w k at first end n least e long o =
 pub loop-degree-preserved : goal.loop-degree-preserved
 loop-degree-preserved c =
     let o = c.loop-degree.invariant in
+    let at = c.degrees_at-at.result + c.first.result in
+    let degree = get_or (take (c.degrees_at-at.result + c.end.result - at) (drop at c.args.work.now)) c.loop-degree.degree-index 0 in
+    let counted = c.before.before.if-degree-enough.counted in
     record {
       lowest =
           lowest-next o.lowest
-          (rw (entry c.args.work.now _ _ c.loop-degree.degree-index c.loop-degree-test.true) (omega (arith, c.type_inv.work (c.degrees_at-at.result + c.first.result + c.loop-degree.degree-index))))
-          (cc (counts _ _ _ _ o.fits (elim c.if-degree-enough.branch [
-            | then-degree-enough w ↦ inl (w.if-degree-enough.true, w.counted-is)
-            | else-degree-enough w ↦ inr (w.if-degree-enough.false, w.counted-is)
+          (rw (entry c.args.work.now _ _ c.loop-degree.degree-index c.loop-degree-test.true) (omega (arith, c.type_inv.work (at + c.loop-degree.degree-index))))
+          (cc (counts c.unwrap_or-enough.result degree c.loop-degree.least counted o.fits (elim c.if-degree-enough.branch [
+            | then-degree-enough w ↦ omega (arith, w.if-degree-enough.true, w.counted-is)
+            | else-degree-enough w ↦ omega (arith, w.if-degree-enough.false, w.counted-is)
           ])));
       fits = omega (arith, o.fits);
     }
